@@ -1,0 +1,6 @@
+-- The calendar's rules, in the order to read them.
+pub mod Limits
+pub mod Times
+pub mod Dues
+pub mod Promises
+pub mod Marked

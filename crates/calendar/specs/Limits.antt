@@ -1,0 +1,31 @@
+-- The limits of document 01, "What a kernel holds", each named once. A tick is 1 ms.
+use mathlib.Core.Bool.{Bool, _&&_}
+use Prim.Native.Nat.{ℕ, _^_}
+use lib.Dec.{leb, ltb}
+
+-- the ticks of a day
+abbrev pub day : ℕ
+day = 86400000
+
+-- the longest duration and the longest period
+abbrev pub longestDuration : ℕ
+longestDuration = 1000000000
+
+-- the last present instant
+abbrev pub lastInstant : ℕ
+lastInstant = 2 ^ 40
+
+-- the largest stored instant
+abbrev pub mostInstant : ℕ
+mostInstant = 2 ^ 42
+
+-- What depends on the length of a day takes it as its first argument.
+abbrev pub isTimeOfDay : ℕ → ℕ → Bool
+isTimeOfDay day t = ltb t day
+
+abbrev pub isDuration : ℕ → Bool
+isDuration d = leb 1 d && leb d longestDuration
+
+-- 0: no repetition
+abbrev pub isPeriod : ℕ → Bool
+isPeriod p = leb p longestDuration

@@ -1,0 +1,140 @@
+// The calendar of the rack kernel: instants, durations and times of day. It knows no tasks.
+ghost use mathlib.Core.Path.{_≡_};
+ghost use Prim.Native.Nat.{_≤_};
+ghost use Rattle.calendar.specs.Limits.{day, mostInstant, isTimeOfDay, isDuration, isPeriod};
+ghost use Rattle.calendar.specs.Times.{plus, timeOfDay, until};
+ghost use Rattle.calendar.specs.Dues.{firstDue, lastAllowed, allowed, nextDue};
+
+// A tick is one millisecond. Instants, durations and times of day are counted in ticks.
+pub const DAY: u32 = 86_400_000;
+
+pub const LONGEST_DURATION: u32 = 1_000_000_000;
+
+pub const LAST_INSTANT: u64 = 1_099_511_627_776;
+
+pub const MOST_INSTANT: u64 = 4_398_046_511_104;
+
+// CLOCK in PEARL: ticks since the kernel was fresh.
+pub struct Instant(pub u64);
+
+// DURATION in PEARL.
+pub struct Duration(pub u32);
+
+// When a start first comes due, seen from the instant at which it takes effect.
+pub enum Start {
+    Now,
+    At(u32),
+    After(Duration),
+}
+
+// How long a start repeats.
+pub enum End {
+    Open,
+    Until(u32),
+    During(Duration),
+}
+
+// An instant, or none.
+pub enum Moment {
+    Never,
+    At(Instant),
+}
+
+pub fn is_time_of_day(t: u32) -> bool
+    ensures { λ r. ⌜ r ≡ isTimeOfDay day t ⌝ }
+{
+    t < DAY
+}
+
+pub fn is_duration(d: u32) -> bool
+    ensures { λ r. ⌜ r ≡ isDuration d ⌝ }
+{
+    1 <= d && d <= LONGEST_DURATION
+}
+
+// A period of 0 means no repetition.
+pub fn is_period(p: u32) -> bool
+    ensures { λ r. ⌜ r ≡ isPeriod p ⌝ }
+{
+    p <= LONGEST_DURATION
+}
+
+impl Instant {
+    // The only sum with an instant in it. Callers have an instant that a kernel stores, which the kernel test
+    // holds to MOST_INSTANT.
+    pub fn plus(self, d: Duration) -> Instant
+        requires { ⌜ self .0 ≤ mostInstant ⌝ }
+        ensures { λ r. ⌜ r ≡ plus self d ⌝ }
+    {
+        Instant(self.0 + d.0 as u64)
+    }
+
+    // The time of day here, from the time of day at instant 0.
+    pub fn time_of_day(self, clock: u32) -> u32
+        ensures { λ r. ⌜ r ≡ timeOfDay day clock self ⌝ }
+    {
+        let day = DAY as u64;
+        let n = self.0 % day;
+        ((clock as u64 + n) % day) as u32
+    }
+
+    // From here to the next time of day t: 0 if it is t now, always less than a day.
+    pub fn until(self, clock: u32, t: u32) -> Duration
+        ensures { λ r. ⌜ r ≡ until day clock self t ⌝ }
+    {
+        let day = DAY as u64;
+        let past = self.time_of_day(clock) as u64;
+        let left = day - past;
+        let wait = ((t as u64 + left) % day) as u32;
+        Duration(wait)
+    }
+}
+
+// First due of a start that takes effect at n.
+pub fn first_due(start: Start, clock: u32, n: Instant) -> Instant
+    requires { ⌜ n .0 ≤ mostInstant ⌝ }
+    ensures { λ r. ⌜ r ≡ firstDue day start clock n ⌝ }
+{
+    match start {
+        Start::Now => n,
+        Start::At(t) => n.plus(n.until(clock, t)),
+        Start::After(d) => n.plus(d),
+    }
+}
+
+// Last allowed due of a start whose first is f; never where there is no end.
+pub fn last_allowed(end: End, clock: u32, f: Instant) -> Moment
+    requires { ⌜ f .0 ≤ mostInstant ⌝ }
+    ensures { λ r. ⌜ r ≡ lastAllowed day end clock f ⌝ }
+{
+    match end {
+        End::Open => Moment::Never,
+        End::Until(u) => Moment::At(f.plus(f.until(clock, u))),
+        End::During(d) => Moment::At(f.plus(d)),
+    }
+}
+
+// Both ends belong: the last instant itself is allowed.
+pub fn is_allowed(last: Moment, n: Instant) -> bool
+    ensures { λ r. ⌜ r ≡ allowed last n ⌝ }
+{
+    match last {
+        Moment::Never => true,
+        Moment::At(l) => n.0 <= l.0,
+    }
+}
+
+// Next due after one at n, or never.
+pub fn next_due(period: u32, last: Moment, n: Instant) -> Moment
+    requires { ⌜ n .0 ≤ mostInstant ⌝ }
+    ensures { λ r. ⌜ r ≡ nextDue period last n ⌝ }
+{
+    if period == 0 {
+        return Moment::Never;
+    }
+    let next = n.plus(Duration(period));
+    if is_allowed(last, next) {
+        return Moment::At(next);
+    }
+    Moment::Never
+}
