@@ -1,0 +1,71 @@
+-- The invariant: what is left decides.
+use borrow.Author.Needs.{needs}
+use mathlib.Core.Path.{_≡_, refl, sym, _∙_}
+use Prim.Native.Nat.{_-_}
+use borrow.Rule.Slice.PartAt.{part-to-end}
+use lib.ListN.{length, drop}
+use Rattle.record.specs.Lists.{distinct}
+use Rattle.record.proofs.ListsLaws.{distinct-stop, distinct-go, distinct-end}
+use Rattle.record.proofs.lists.has_no_repeat.Statement.{statement}
+use Rattle.record.proofs.lists.has_no_repeat.Tie as tie
+
+abbrev Inv-loop : tie.InvT-loop
+Inv-loop s i₀ i = distinct s ≡ distinct (drop i s)
+
+abbrev μ-loop : tie.MeasureT-loop
+μ-loop s i₀ i = length s - i
+
+loop-holds : tie.Need-loop-holds Inv-loop μ-loop
+loop-holds c = refl
+
+shared-slice-read-x : tie.Need-shared-slice-read-x Inv-loop μ-loop
+shared-slice-read-x c = search needs
+
+add-i : tie.Need-add-i Inv-loop μ-loop
+add-i c = search needs
+
+sub-is-named : tie.Need-sub-is-named Inv-loop μ-loop
+sub-is-named c = search needs
+
+part-is-named-start : tie.Need-part-is-named-start Inv-loop μ-loop
+part-is-named-start c = search needs
+
+part-is-named-end : tie.Need-part-is-named-end Inv-loop μ-loop
+part-is-named-end c = search needs
+
+is-named-requires : tie.Need-is-named-requires Inv-loop μ-loop
+is-named-requires c κs = search needs
+
+returns : tie.Need-returns Inv-loop μ-loop
+returns c =
+    let before = c .before .before .before .before in
+    sym (before .before .loop .inv ∙ distinct-stop _ _ (before .loop-test .taken) (sym (rw part-to-end at (c .before .is-named .ensures)) ∙ c .if1 .taken))
+
+loop-less : tie.Need-loop-less Inv-loop μ-loop
+loop-less c = search needs
+
+loop-again : tie.Need-loop-again Inv-loop μ-loop
+loop-again c =
+    let before = c .before .before .before .before in
+    before .before .loop .inv ∙ distinct-go _ _ (before .loop-test .taken) (sym (rw part-to-end at (c .before .is-named .ensures)) ∙ c .if1 .left)
+
+returns-2 : tie.Need-returns-2 Inv-loop μ-loop
+returns-2 c = sym (c .before .loop .inv ∙ distinct-end _ _ (c .loop-test .left))
+
+pub has-no-repeat-spec : {M : Type 1} → statement M
+has-no-repeat-spec =
+    tie.close
+    (tie.spec
+    Inv-loop
+    μ-loop
+    loop-holds
+    shared-slice-read-x
+    add-i
+    sub-is-named
+    part-is-named-start
+    part-is-named-end
+    is-named-requires
+    returns
+    loop-less
+    loop-again
+    returns-2)

@@ -1,0 +1,58 @@
+-- Form by form.
+use borrow.Author.Needs.{needs}
+use Rattle.record.specs.Refusals.{timed}
+use Rattle.record.proofs.TimesLaws.{timed-else}
+use Rattle.record.proofs.times.is_timed.Statement.{statement}
+use Rattle.record.proofs.times.is_timed.Tie as tie
+
+form-of-requires : tie.Need-form-of-requires
+form-of-requires c κs = search needs
+
+enum-told : tie.Need-enum-told
+enum-told c = search needs
+
+is-time-of-day-requires : tie.Need-is-time-of-day-requires
+is-time-of-day-requires c κs = search needs
+
+enum-told-2 : tie.Need-enum-told-2
+enum-told-2 c = search needs
+
+is-duration-requires : tie.Need-is-duration-requires
+is-duration-requires c κs = search needs
+
+enum-told-3 : tie.Need-enum-told-3
+enum-told-3 c = search needs
+
+is-start-timed-requires : tie.Need-is-start-timed-requires
+is-start-timed-requires c κs = search needs
+
+returns : tie.Need-returns
+unfolding timed
+returns c = rw (← c .before .before .before .form-of .ensures, c .before .enum-told .given .1, c .is-time-of-day .ensures)
+
+returns-2 : tie.Need-returns-2
+unfolding timed
+returns-2 c = rw (← c .before .before .before .form-of .ensures, c .before .enum-told2 .given .1, c .is-duration .ensures)
+
+returns-3 : tie.Need-returns-3
+unfolding timed
+returns-3 c = rw (← c .before .before .before .form-of .ensures, c .before .enum-told3 .given .1, c .is-start-timed .ensures)
+
+returns-4 : tie.Need-returns-4
+returns-4 c = rw (← c .before .form-of .ensures) (timed-else _ _ _ (c .match .keys4))
+
+pub is-timed-spec : {M : Type 1} → statement M
+is-timed-spec =
+    tie.close
+    (tie.spec
+    form-of-requires
+    enum-told
+    is-time-of-day-requires
+    enum-told-2
+    is-duration-requires
+    enum-told-3
+    is-start-timed-requires
+    returns
+    returns-2
+    returns-3
+    returns-4)

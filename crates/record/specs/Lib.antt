@@ -1,0 +1,8 @@
+-- The record form's rules, in the order to read them.
+pub mod Marks
+pub mod Fields
+pub mod Lists
+pub mod Refusals
+pub mod Reading
+pub mod Writing
+pub mod Promises

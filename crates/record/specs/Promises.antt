@@ -1,0 +1,65 @@
+-- What reader and writer promise of each other, for every call and any bytes. Proved in proofs/Theorems.antt.
+use mathlib.Core.Path.{_≡_}
+use mathlib.Core.Bool.{true}
+use mathlib.Core.List.{List, [], _∷_}
+use mathlib.Core.Logic.{_⊎_, _↔_}
+use Prim.Native.Nat.{ℕ, suc, _<_}
+use lib.ListN.{length, replicate}
+use Rattle.record.specs.declared.Mark.{Mark}
+use Rattle.record.specs.declared.Head.{Head}
+use Rattle.record.specs.declared.Call.{Call}
+use Rattle.record.specs.declared.Read.the-variants.{Accepted}
+use Rattle.record.specs.Marks.{code}
+use Rattle.record.specs.Fields.{recordLength, byte, letters, callOf, bytesOf}
+use Rattle.record.specs.Lists.{names}
+use Rattle.record.specs.Refusals.{refusal}
+use Rattle.record.specs.Reading.{numberOf, accepted, callWith, reading}
+use Rattle.record.specs.Writing.{written}
+
+-- A list has four places, as in every call of the code.
+abbrev pub FourPlaces : Call → Type 0
+FourPlaces c = length (c .list) ≡ 4
+
+-- Each element is a byte.
+abbrev pub Octets : List ℕ → Type 0
+Octets s = (i : ℕ) → byte s i < 256
+
+-- What the writer takes reads back as itself.
+abbrev pub WrittenReadsBack : Type 0
+WrittenReadsBack =
+    (day : ℕ) (c : Call) → FourPlaces c → written day c .number ≡ 0 → reading day (written day c .bytes) ≡ accepted c
+
+-- An accepted record, read and written, gives the same bytes.
+abbrev pub ReadWritesBack : Type 0
+ReadWritesBack =
+    (day : ℕ) (s : List ℕ) (h : Head) → Octets s → reading day s .answer ≡ Accepted h
+    → written day (callWith h (reading day s .list)) ≡ record { number = 0; bytes = s }
+
+-- The writer's number is the one that the reader gives for the bytes of the call.
+abbrev pub WriterRefusesAsReader : Type 0
+WriterRefusesAsReader =
+    (day : ℕ) (c : Call) → FourPlaces c → written day c .number ≡ numberOf (reading day (bytesOf c) .answer)
+
+-- A refused call leaves 24 zero bytes.
+abbrev pub RefusedWritesZeros : Type 0
+RefusedWritesZeros =
+    (day : ℕ) (c : Call) (n : ℕ) → written day c .number ≡ suc n → written day c .bytes ≡ replicate recordLength 0
+
+-- Bytes of another length, or with the letters of no mark.
+abbrev pub NoRecord : List ℕ → Type 0
+NoRecord s = (length s ≡ recordLength → ⊥) ⊎ ((m : Mark) → letters s ≡ code m → ⊥)
+
+-- The reader's 2 says just that the bytes are no record, whatever else is wrong with them.
+abbrev pub TwoIsNoRecord : Type 0
+TwoIsNoRecord = (day : ℕ) (s : List ℕ) → (numberOf (reading day s .answer) ≡ 2) ↔ NoRecord s
+
+-- Of a record it judges the fields.
+abbrev pub RecordIsJudged : Type 0
+RecordIsJudged =
+    (day : ℕ) (s : List ℕ) (m : Mark) → length s ≡ recordLength → letters s ≡ code m
+    → numberOf (reading day s .answer) ≡ refusal day (callOf m s)
+
+-- The reader gives 0 or refusal 2, 3, 4 or 6, and no other number.
+abbrev pub ReaderNumbers : Type 0
+ReaderNumbers =
+    (day : ℕ) (s : List ℕ) → names (0 ∷ 2 ∷ 3 ∷ 4 ∷ 6 ∷ []) (numberOf (reading day s .answer)) ≡ true

@@ -1,0 +1,56 @@
+// Facts that a rule asks of a list of numbers, of any length.
+ghost use mathlib.Core.Path.{_≡_};
+ghost use Prim.Native.Nat.{_≤_};
+ghost use lib.ListN.{take};
+ghost use Rattle.record.specs.Lists.{allZero, names, distinct};
+
+// Whether each number is 0.
+pub fn zeros(s: &[u8]) -> bool
+    ensures { λ r. ⌜ r ≡ allZero (now (s .entry)) ⌝ }
+{
+    let mut i = 0;
+    while i < s.len() {
+        if s[i] != 0 {
+            return false;
+        }
+        i += 1;
+    }
+    true
+}
+
+// Whether a list names x.
+fn is_named(s: &[u8], x: u8) -> bool
+    ensures { λ r. ⌜ r ≡ names (now (s .entry)) x ⌝ }
+{
+    let mut i = 0;
+    while i < s.len() {
+        if s[i] == x {
+            return true;
+        }
+        i += 1;
+    }
+    false
+}
+
+// Whether no number stands twice.
+fn has_no_repeat(s: &[u8]) -> bool
+    ensures { λ r. ⌜ r ≡ distinct (now (s .entry)) ⌝ }
+{
+    let mut i = 0;
+    while i < s.len() {
+        let x = s[i];
+        i += 1;
+        if is_named(&s[i..], x) {
+            return false;
+        }
+    }
+    true
+}
+
+// Whether no number stands twice among the first n of a list of four. Callers have tested the length.
+pub fn is_distinct(list: [u8; 4], n: usize) -> bool
+    requires { ⌜ n ≤ 4 ⌝ }
+    ensures { λ r. ⌜ r ≡ distinct (take n list) ⌝ }
+{
+    has_no_repeat(&list[..n])
+}

@@ -1,0 +1,76 @@
+// The reader.
+ghost use mathlib.Core.Path.{_≡_};
+ghost use lib.ListN.{length};
+ghost use Rattle.calendar.specs.Limits.{day};
+ghost use Rattle.record.specs.Fields.{recordLength, headOf, listOf};
+ghost use Rattle.record.specs.Refusals.{refusal};
+ghost use Rattle.record.specs.Reading.{callWith, refused, opened, reading};
+use crate::Head;
+use crate::Marked;
+use crate::RECORD_LENGTH;
+use crate::Read;
+use crate::Reading;
+use crate::fields::head_at;
+use crate::fields::letters_at;
+use crate::fields::list_at;
+use crate::marks::mark_of;
+use crate::shape::shape_at;
+use crate::times::times_of;
+
+pub(crate) fn refuse(n: u8) -> Reading
+    ensures { λ r. ⌜ r ≡ refused n ⌝ }
+{
+    Reading {
+        answer: Read::Refused(n),
+        list: [0; 4],
+    }
+}
+
+// The fields of a record, or refusal 2.
+pub fn open(s: &[u8]) -> Reading
+    ensures { λ r. ⌜ r ≡ opened (now (s .entry)) ⌝ }
+{
+    if s.len() != RECORD_LENGTH {
+        return refuse(2);
+    }
+    let found = mark_of(letters_at(s));
+    let Marked::Known(mark) = found else {
+        return refuse(2);
+    };
+    let head = head_at(s, mark);
+    Reading {
+        answer: Read::Accepted(head),
+        list: list_at(s),
+    }
+}
+
+// 3, 4 or 6, or 0, of the fields of a record.
+pub(crate) fn refusal_at(s: &[u8], h: Head, list: [u8; 4]) -> u8
+    requires { ⌜ length (now s) ≡ recordLength ⌝ }
+    requires { ⌜ h ≡ headOf (h .mark) (now s) ⌝ }
+    requires { ⌜ list ≡ listOf (now s) ⌝ }
+    ensures { λ r. ⌜ r ≡ refusal day (callWith h list) ⌝ }
+{
+    let n = shape_at(s, h, list);
+    if n != 0 {
+        return n;
+    }
+    times_of(h)
+}
+
+// What bytes of any length say, or the first of refusals 2, 3, 4 and 6.
+pub fn read(s: &[u8]) -> Reading
+    ensures { λ r. ⌜ r ≡ reading day (now (s .entry)) ⌝ }
+{
+    let r = open(s);
+    let answer = r.answer;
+    let list = r.list;
+    let Read::Accepted(head) = answer else {
+        return r;
+    };
+    let n = refusal_at(s, head, list);
+    if n == 0 {
+        return r;
+    }
+    refuse(n)
+}

@@ -1,0 +1,65 @@
+// Refusal 6: times of day, durations and periods.
+ghost use mathlib.Core.Path.{_≡_};
+ghost use Rattle.calendar.specs.Limits.{day};
+ghost use Rattle.record.specs.Marks.{form};
+ghost use Rattle.record.specs.Refusals.{endTimed, firstTimed, givenIf, startTimed, timed, times};
+use crate::Form;
+use crate::Head;
+use crate::kinds::is_after_duration;
+use crate::kinds::needs_period;
+use crate::marks::form_of;
+use calendar::is_duration;
+use calendar::is_period;
+use calendar::is_time_of_day;
+
+// Whether an end's time is in range: UNTIL a time of day, DURING a duration.
+fn is_end_timed(endkind: u8, t: u32) -> bool
+    ensures { λ r. ⌜ r ≡ endTimed day endkind t ⌝ }
+{
+    ((endkind != 1) | is_time_of_day(t)) & ((endkind != 2) | is_duration(t))
+}
+
+// Whether a start's first time is in range: AT a time of day, AFTER a duration.
+fn is_first_timed(kind: u8, t: u32) -> bool
+    ensures { λ r. ⌜ r ≡ firstTimed day kind t ⌝ }
+{
+    ((kind != 1) | is_time_of_day(t)) & (!is_after_duration(kind) | is_duration(t))
+}
+
+// Whether a period is given where one is needed.
+fn given_if(needed: bool, period: u32) -> bool
+    ensures { λ r. ⌜ r ≡ givenIf needed period ⌝ }
+{
+    !needed | (0 < period)
+}
+
+// Whether an activation's times are in range.
+fn is_start_timed(h: Head) -> bool
+    ensures { λ r. ⌜ r ≡ startTimed day h ⌝ }
+{
+    is_first_timed(h.kind, h.first)
+        & is_period(h.period)
+        & given_if(needs_period(h.kind, h.endkind), h.period)
+        & is_end_timed(h.endkind, h.endtime)
+}
+
+// Whether the record passes refusal 6.
+fn is_timed(h: Head) -> bool
+    ensures { λ r. ⌜ r ≡ timed day (form (h .mark)) h ⌝ }
+{
+    let mark = h.mark;
+    let f = form_of(mark);
+    match f {
+        Form::TimeOfDay => is_time_of_day(h.first),
+        Form::Delay => is_duration(h.first),
+        Form::Activation => is_start_timed(h),
+        _ => true,
+    }
+}
+
+// 6, or 0.
+pub fn times_of(h: Head) -> u8
+    ensures { λ r. ⌜ r ≡ times day h ⌝ }
+{
+    if is_timed(h) { 0 } else { 6 }
+}

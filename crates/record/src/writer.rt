@@ -1,0 +1,25 @@
+// The writer.
+ghost use mathlib.Core.Path.{_≡_};
+ghost use Rattle.calendar.specs.Limits.{day};
+ghost use Rattle.record.specs.Writing.{written};
+use crate::Call;
+use crate::Written;
+use crate::fields::bytes_of;
+use crate::reader::refusal_at;
+
+// The record of a call or declaration, or the refusal that the reader would give and zero bytes.
+pub fn write(c: Call) -> Written
+    ensures { λ r. ⌜ r ≡ written day c ⌝ }
+{
+    let bytes = bytes_of(c);
+    let head = c.head;
+    let list = c.list;
+    let n = refusal_at(&bytes, head, list);
+    if n == 0 {
+        return Written { number: 0, bytes };
+    }
+    Written {
+        number: n,
+        bytes: [0; 24],
+    }
+}
