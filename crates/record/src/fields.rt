@@ -3,9 +3,12 @@ ghost use mathlib.Core.Path.{_≡_};
 ghost use Prim.Native.Nat.{_+_, _*_, _≤_};
 ghost use lib.ListN.{length};
 ghost use Rattle.record.specs.Fields.{recordLength, letters, word, headOf, listOf, bytesOfWord, bytesOf};
+use crate::Bytes;
 use crate::Call;
 use crate::Head;
 use crate::Mark;
+use crate::Numbers;
+use crate::Octets;
 use crate::marks::code_of;
 
 // Two bytes as one number, big-endian.
@@ -55,7 +58,7 @@ pub(crate) fn head_at(s: &[u8], mark: Mark) -> Head
     }
 }
 
-pub(crate) fn list_at(s: &[u8]) -> [u8; 4]
+pub(crate) fn list_at(s: &[u8]) -> Numbers
     requires { ⌜ length (now s) ≡ recordLength ⌝ }
     ensures { λ r. ⌜ r ≡ listOf (now (s .entry)) ⌝ }
 {
@@ -63,7 +66,7 @@ pub(crate) fn list_at(s: &[u8]) -> [u8; 4]
 }
 
 // A number as four bytes, big-endian.
-fn bytes_of_word(n: u32) -> [u8; 4]
+fn bytes_of_word(n: u32) -> Octets
     ensures { λ r. ⌜ r ≡ bytesOfWord n ⌝ }
 {
     [
@@ -74,7 +77,7 @@ fn bytes_of_word(n: u32) -> [u8; 4]
     ]
 }
 
-pub fn bytes_of(c: Call) -> [u8; 24]
+pub fn bytes_of(c: Call) -> Bytes
     ensures { λ r. ⌜ r ≡ bytesOf c ⌝ }
 {
     let h = c.head;

@@ -78,10 +78,19 @@ pub struct Head {
     pub endtime: u32,
 }
 
+// The list of a call: one to four numbers, then zeros.
+pub type Numbers = [u8; 4];
+
+// The bytes of a record.
+pub type Bytes = [u8; 24];
+
+// Four bytes of a time.
+pub type Octets = [u8; 4];
+
 // A call or declaration.
 pub struct Call {
     pub head: Head,
-    pub list: [u8; 4],
+    pub list: Numbers,
 }
 
 // The reader's answer. The list stands beside it, in Reading.
@@ -92,11 +101,11 @@ pub enum Read {
 
 pub struct Reading {
     pub answer: Read,
-    pub list: [u8; 4],
+    pub list: Numbers,
 }
 
 // The writer's answer: 0 and the record, or a refusal and zero bytes.
 pub struct Written {
     pub number: u8,
-    pub bytes: [u8; 24],
+    pub bytes: Bytes,
 }

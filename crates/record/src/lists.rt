@@ -3,6 +3,7 @@ ghost use mathlib.Core.Path.{_≡_};
 ghost use Prim.Native.Nat.{_≤_};
 ghost use lib.ListN.{take};
 ghost use Rattle.record.specs.Lists.{allZero, names, distinct};
+use crate::Numbers;
 
 // Whether each number is 0.
 pub fn zeros(s: &[u8]) -> bool
@@ -48,7 +49,7 @@ fn has_no_repeat(s: &[u8]) -> bool
 }
 
 // Whether no number stands twice among the first n of a list of four. Callers have tested the length.
-pub fn is_distinct(list: [u8; 4], n: usize) -> bool
+pub fn is_distinct(list: Numbers, n: usize) -> bool
     requires { ⌜ n ≤ 4 ⌝ }
     ensures { λ r. ⌜ r ≡ distinct (take n list) ⌝ }
 {

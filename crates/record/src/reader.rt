@@ -7,6 +7,7 @@ ghost use Rattle.record.specs.Refusals.{refusal};
 ghost use Rattle.record.specs.Reading.{callWith, refused, opened, reading};
 use crate::Head;
 use crate::Marked;
+use crate::Numbers;
 use crate::RECORD_LENGTH;
 use crate::Read;
 use crate::Reading;
@@ -45,7 +46,7 @@ pub fn open(s: &[u8]) -> Reading
 }
 
 // 3, 4 or 6, or 0, of the fields of a record.
-pub(crate) fn refusal_at(s: &[u8], h: Head, list: [u8; 4]) -> u8
+pub(crate) fn refusal_at(s: &[u8], h: Head, list: Numbers) -> u8
     requires { ⌜ length (now s) ≡ recordLength ⌝ }
     requires { ⌜ h ≡ headOf (h .mark) (now s) ⌝ }
     requires { ⌜ list ≡ listOf (now s) ⌝ }

@@ -16,6 +16,7 @@ use crate::LAST_END_KIND;
 use crate::LAST_KIND;
 use crate::MOST_NUMBERS;
 use crate::MOST_VALUE;
+use crate::Numbers;
 use crate::RECORD_LENGTH;
 use crate::kinds::has_first;
 use crate::kinds::is_on_interrupt;
@@ -33,7 +34,7 @@ fn zero_around(s: &[u8], a: usize, b: usize) -> bool
 }
 
 // Whether a list's length is in range, the list's bytes past it zero, and every field but the list.
-fn is_list_formed(s: &[u8], len: u8, list: [u8; 4]) -> bool
+fn is_list_formed(s: &[u8], len: u8, list: Numbers) -> bool
     requires { ⌜ length (now s) ≡ recordLength ⌝ }
     ensures { λ r. ⌜ r ≡ (leb len mostNumbers && (allZero (drop len list) && (allZero (stretch (now (s .entry)) 2 4) && allZero (stretch (now (s .entry)) 9 recordLength)))) ⌝ }
 {
@@ -64,7 +65,7 @@ fn is_start_formed(h: Head) -> bool
 }
 
 // Whether the record passes refusal 3.
-pub(crate) fn is_formed(s: &[u8], h: Head, list: [u8; 4]) -> bool
+pub(crate) fn is_formed(s: &[u8], h: Head, list: Numbers) -> bool
     requires { ⌜ length (now s) ≡ recordLength ⌝ }
     requires { ⌜ h ≡ headOf (h .mark) (now s) ⌝ }
     requires { ⌜ list ≡ listOf (now s) ⌝ }
@@ -87,7 +88,7 @@ pub(crate) fn is_formed(s: &[u8], h: Head, list: [u8; 4]) -> bool
 }
 
 // Whether the record passes refusal 4.
-pub(crate) fn is_listed(h: Head, list: [u8; 4]) -> bool
+pub(crate) fn is_listed(h: Head, list: Numbers) -> bool
     requires { ⌜ h .len ≤ mostNumbers ⌝ }
     ensures { λ r. ⌜ r ≡ listed (form (h .mark)) (callWith h list) ⌝ }
 {
@@ -102,7 +103,7 @@ pub(crate) fn is_listed(h: Head, list: [u8; 4]) -> bool
 }
 
 // 3 or 4, or 0. Head and list are those of the record s: callers have them from open(s), or from the bytes of a call.
-pub fn shape_at(s: &[u8], h: Head, list: [u8; 4]) -> u8
+pub fn shape_at(s: &[u8], h: Head, list: Numbers) -> u8
     requires { ⌜ length (now s) ≡ recordLength ⌝ }
     requires { ⌜ h ≡ headOf (h .mark) (now s) ⌝ }
     requires { ⌜ list ≡ listOf (now s) ⌝ }
