@@ -1,0 +1,168 @@
+-- Accepted declarations leave a fresh kernel.
+use mathlib.Core.Path.{_≡_, refl, _∙_}
+use mathlib.Core.Bool.{true, false, not, _&&_}
+use mathlib.Core.List.{List, [], _∷_}
+use Prim.Native.Nat.{ℕ, zero, suc, _<_}
+use native.Mathlib.Nat.{not-suc-le-zero}
+use native.Mathlib.Omega.{arith}
+use lib.Seq.{getD-set-same, getD-set-other}
+use Rattle.record.specs.Reading.{callWith, opened}
+use Rattle.record.specs.declared.Read.{Read}
+use Rattle.record.specs.declared.Read.the-variants.{Refused, Accepted}
+use Rattle.record.specs.declared.Mark.{Mark}
+use Rattle.record.specs.declared.Mark.the-variants.{DT, DB, IT}
+use Rattle.record.specs.declared.Call.{Call}
+use Rattle.lock.specs.Locks.{emptyBolt, boltAt}
+use Rattle.lock.proofs.Bools.{byBool, byEq, contra, both}
+use Rattle.lock.proofs.Levels.{bolt-same, bolt-other}
+use Rattle.task.specs.State.{noTask}
+use Rattle.kernel.specs.declared.Kernel.{Kernel}
+use Rattle.kernel.specs.State.{taskAt, enabledAt, freshTask, nothing, withClock}
+use Rattle.kernel.specs.Refusals.{declares, refusalOf}
+use Rattle.kernel.specs.Calls.{addTask, addSemaphore, addBolt, addInterrupt}
+use Rattle.kernel.specs.Step.{refuse, declared, orRefuse, carryOut, carryOn, stepRead, step}
+use Rattle.kernel.specs.Log.{final, log}
+use Rattle.kernel.specs.Invariants.{IsDay}
+use Rattle.kernel.proofs.Facts.{KernelOk, bounded-of, passes-of-ok}
+use Rattle.kernel.proofs.Accepting.{Passed, all-passed}
+use Rattle.kernel.proofs.Marks.{carried-number, by-declaration}
+use Rattle.kernel.proofs.Declaring.{room-DT, room-DB, room-IT}
+use Rattle.kernel.proofs.Invariants.{step-on, step-ok}
+use Rattle.balance.specs.Counting.{accepted}
+use Rattle.balance.specs.Fresh.{AllOctets, declaration, acceptedCall, without, DeclaredIsFresh}
+
+-- A kernel whose declared places are as their declarations left them.
+record Young (k : Kernel) : Type 0 where
+  instant : k .now .0 ≡ 0
+  unbegun : k .begun ≡ false
+  tasks : (i : ℕ) → i < k .counts .tasks → taskAt (k .tasks) i ≡ freshTask (taskAt (k .tasks) i .declared)
+  bolts : (b : ℕ) → b < k .counts .bolts → boltAt (k .locks) b ≡ emptyBolt
+  enabled : (i : ℕ) → i < k .counts .interrupts → enabledAt k i ≡ false
+
+declared-is : (p : ℕ) → freshTask p ≡ freshTask (freshTask p .declared)
+unfolding freshTask
+declared-is p = refl
+
+module _ (day : ℕ) (k : Kernel) (h : KernelOk day k) (y : Young k) (c : Call) where
+  young-DT : Passed day DT k c → Young (addTask (c .head .priority) k)
+  unfolding addTask
+  young-DT p =
+      let n = k .counts .tasks in
+      let room = room-DT day k h c p in
+      let at-new = getD-set-same (k .tasks) n (freshTask (c .head .priority)) noTask (omega (arith, h .tables .tasks)) in
+      record {
+        instant = y .instant;
+        unbegun = y .unbegun;
+        tasks = λ i l. byEq i n (λ z. rw (z, at-new) (declared-is (c .head .priority)))
+            (λ z. rw (getD-set-other (k .tasks) n i (freshTask (c .head .priority)) noTask z) (y .tasks i (omega arith)));
+        bolts = y .bolts;
+        enabled = y .enabled;
+      }
+
+  young-DS : Young (addSemaphore (c .head .first) k)
+  unfolding addSemaphore
+  young-DS = record { instant = y .instant; unbegun = y .unbegun; tasks = y .tasks; bolts = y .bolts; enabled = y .enabled }
+
+  young-DB : Passed day DB k c → Young (addBolt k)
+  unfolding addBolt
+  young-DB p =
+      let n = k .counts .bolts in
+      let room = room-DB day k h c p in
+      record {
+        instant = y .instant;
+        unbegun = y .unbegun;
+        tasks = y .tasks;
+        bolts = λ b l. byEq b n (λ z. rw (z, bolt-same (k .locks) n emptyBolt (omega (arith, h .tables .bolts))))
+            (λ z. bolt-other (k .locks) n emptyBolt b z ∙ y .bolts b (omega arith));
+        enabled = y .enabled;
+      }
+
+  young-IT : Passed day IT k c → Young (addInterrupt k)
+  unfolding addInterrupt
+  young-IT p =
+      let n = k .counts .interrupts in
+      let room = room-IT day k h c p in
+      record {
+        instant = y .instant;
+        unbegun = y .unbegun;
+        tasks = y .tasks;
+        bolts = y .bolts;
+        enabled = λ i l. byEq i n (λ z. rw (z, getD-set-same (k .enabled) n false false (omega (arith, h .tables .enabled))))
+            (λ z. getD-set-other (k .enabled) n i false false z ∙ y .enabled i (omega arith));
+      }
+
+  young-DC : Young (withClock (c .head .first) k)
+  young-DC = record { instant = y .instant; unbegun = y .unbegun; tasks = y .tasks; bolts = y .bolts; enabled = y .enabled }
+
+  young-declared : (m : Mark) → declares m ≡ true → Passed day m k c → Young (carryOut day m k c .kernel)
+  unfolding carryOut declared
+  young-declared =
+      by-declaration (λ m. Passed day m k c → Young (carryOut day m k c .kernel)) young-DT (λ p. young-DS) young-DB young-IT (λ p. young-DC)
+
+  young-carried : not (accepted (carryOn day k c .answer) && not (declares (c .head .mark))) ≡ true → Young (carryOn day k c .kernel)
+  unfolding carryOn
+  young-carried q = go (refusalOf day k c) refl q
+    where
+      go : (n : ℕ) → refusalOf day k c ≡ n → not (accepted (orRefuse k n (carryOut day (c .head .mark) k c) .answer) && not (declares (c .head .mark))) ≡ true → Young (orRefuse k n (carryOut day (c .head .mark) k c) .kernel)
+      go zero e z =
+          byBool (declares (c .head .mark)) (λ d. young-declared (c .head .mark) d (all-passed day k c e))
+          (λ d. contra z (rw (carried-number day k c (c .head .mark), d)))
+      go (suc n) e z = unfold refuse in y
+
+module _ (day : ℕ) (isDay : IsDay day) where
+  young-step : (k : Kernel) → KernelOk day k → Young k → (s : List ℕ) → not (accepted (step day k s .answer) && not (declaration (opened s .answer))) ≡ true → Young (step day k s .kernel)
+  young-step k h y s q = rw on (go (opened s .answer) (rw on at q))
+    where
+      on : step day k s ≡ stepRead day k (opened s .answer) (opened s .list)
+      on = step-on day k s (passes-of-ok day k h .tested)
+
+      go : (r : Read) → not (accepted (stepRead day k r (opened s .list) .answer) && not (declaration r)) ≡ true → Young (stepRead day k r (opened s .list) .kernel)
+      go (Refused n) z = unfold refuse in y
+      go (Accepted d) z = young-carried day k h y (callWith d (opened s .list)) z
+
+  young-all : (rs : List (List ℕ)) (k : Kernel) → KernelOk day k → Young k → AllOctets rs → without acceptedCall (log day k rs) ≡ true → KernelOk day (final day k rs) × Young (final day k rs)
+  unfolding AllOctets without log final
+  young-all [] k h y o q = (h, y)
+  young-all (r ∷ rs) k h y o q =
+      let p = both (not (accepted (step day k r .answer) && not (declaration (opened r .answer)))) _ q in
+      young-all rs (step day k r .kernel) (step-ok day isDay k h r (o .0)) (young-step k h y r (p .0)) (o .1) (p .1)
+
+  -- ---- nothing declared
+
+  nothing-ok : KernelOk day nothing
+  unfolding nothing
+  nothing-ok =
+      record {
+        tables = record { tasks = refl; semaphores = refl; bolts = refl; enabled = refl };
+        now-ok = omega arith;
+        clock-ok = isDay .some;
+        counts-ok = record { tasks = omega arith; semaphores = omega arith; bolts = omega arith; interrupts = omega arith };
+        bounded = bounded-of _ _ (λ s l. absurd (not-suc-le-zero l)) (λ b l. absurd (not-suc-le-zero l));
+        tasks-ok = λ i l. absurd (not-suc-le-zero l);
+        stuck = λ i l. absurd (not-suc-le-zero l);
+      }
+
+nothing-young : Young nothing
+unfolding nothing
+nothing-young =
+    record {
+      instant = refl;
+      unbegun = refl;
+      tasks = λ i l. absurd (not-suc-le-zero l);
+      bolts = λ b l. absurd (not-suc-le-zero l);
+      enabled = λ i l. absurd (not-suc-le-zero l);
+    }
+
+pub declared-is-fresh : DeclaredIsFresh
+declared-is-fresh day isDay rs o q =
+    let z = young-all day isDay rs nothing (nothing-ok day isDay) nothing-young o q in
+    let p = passes-of-ok day (final day nothing rs) (z .0) in
+    record {
+      tables = p .tables;
+      tested = p .tested;
+      instant = z .1 .instant;
+      unbegun = z .1 .unbegun;
+      tasks = z .1 .tasks;
+      bolts = z .1 .bolts;
+      enabled = z .1 .enabled;
+    }

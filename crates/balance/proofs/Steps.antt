@@ -1,0 +1,182 @@
+-- The books of one step.
+use mathlib.Core.Path.{_≡_, refl, sym, _∙_}
+use mathlib.Core.Logic.{_≢_}
+use mathlib.Core.Bool.{Bool, true, false, not, cond, _&&_, _||_}
+use mathlib.Core.List.{List}
+use Prim.Native.Nat.{ℕ, zero, suc, _*_, _<_}
+use native.Mathlib.Omega.{arith}
+use lib.Dec.{eqb}
+use borrow.Author.Tests.{ne-eqb}
+use Rattle.record.specs.Refusals.{named}
+use Rattle.record.specs.Reading.{callWith, opened}
+use Rattle.record.specs.Promises.{Octets}
+use Rattle.record.specs.declared.Head.{Head}
+use Rattle.record.specs.declared.Read.{Read}
+use Rattle.record.specs.declared.Read.the-variants.{Refused, Accepted}
+use Rattle.lock.specs.Locks.{bit, waiting, level}
+use Rattle.lock.specs.declared.Wait.{Wait}
+use Rattle.lock.proofs.Bools.{tests, byBool, contra, or-right}
+use Rattle.lock.proofs.Levels.{Law, law-refl}
+use Rattle.lock.proofs.Exclusion.{Exclusive}
+use Rattle.kernel.specs.declared.Kernel.{Kernel}
+use Rattle.kernel.specs.declared.Answer.{Answer}
+use Rattle.kernel.specs.declared.Running.{Running}
+use Rattle.kernel.specs.declared.Stepped.{Stepped}
+use Rattle.kernel.specs.Sets.{has}
+use Rattle.kernel.specs.State.{taskAt}
+use Rattle.kernel.specs.Running.{runner}
+use Rattle.kernel.specs.Work.{Work}
+use Rattle.kernel.specs.Refusals.{declares, refusalOf}
+use Rattle.kernel.specs.Step.{refuse, finish, declared, orRefuse, carryOut, carryOn, stepRead, step}
+use Rattle.kernel.specs.Invariants.{IsDay}
+use Rattle.kernel.proofs.Sets.{has-empty, pow-pos}
+use Rattle.kernel.proofs.Facts.{KernelOk, passes-of-ok}
+use Rattle.kernel.proofs.Marks.{carried-number}
+use Rattle.kernel.proofs.Accepting.{all-passed, refusal-not-1, opened-refused, opened-priority}
+use Rattle.kernel.proofs.Done.{Did, role, call-carried}
+use Rattle.kernel.proofs.Keeping.{begin, begin-ok, did-ok, finish-ok}
+use Rattle.kernel.proofs.Invariants.{step-on}
+use Rattle.balance.specs.Counting.{accepted, asks, gives, namesIn, Asking, counts, issuedBy, grantsIn, Open, isIssuer, tries, isIn}
+use Rattle.balance.specs.Fresh.{declaration}
+use Rattle.balance.specs.Balance.{prevents}
+use Rattle.balance.proofs.Grants.{moved-refl, law-moved, no-grants}
+use Rattle.balance.proofs.Works.{Ties, asksIf, lastIf, waitsNow, waitingIn, Marked, still-marked, Declared, only-granted}
+use Rattle.balance.proofs.Calls.{did-books}
+use Rattle.balance.proofs.Serving.{served-books}
+
+-- What the counts of a log go by, for a record that reads as r with the list l.
+module _ (a : Answer) (r : Read) (l : List ℕ) (before : Running) where
+  abbrev pub lastThen : Asking → Asking
+  lastThen last = cond (accepted a && waiting (namesIn asks r l .kind)) (issuedBy before (namesIn asks r l) last) last
+
+  abbrev pub asksThen : ℕ → Bool
+  asksThen i = accepted a && waiting (namesIn asks r l .kind) && isIssuer before i
+
+  abbrev pub openNow : Open → Open
+  openNow was i = (was i && not (isIn (a .ended) i)) || asksThen i
+
+  abbrev pub openThen : Open → Open
+  openThen was i = ((was i && not (isIn (a .ended) i)) || (asksThen i && not (tries r))) && not (isIn (a .granted) i)
+
+-- What each step keeps, besides the kernel test.
+pub record Invariant (day : ℕ) (k : Kernel) (last : Asking) (was : Open) : Type 0 where
+  pub ok : KernelOk day k
+  pub ties : Ties (k .counts .tasks) (k .tasks) last
+  pub opens : (i : ℕ) → i < k .counts .tasks → was i ≡ waiting (taskAt (k .tasks) i .wait)
+  pub exclusive : Exclusive (k .counts .bolts) (k .locks)
+
+pub record StepBooks (day : ℕ) (k : Kernel) (last : Asking) (was : Open) (r : Read) (l : List ℕ) (s : Stepped) : Type 0 where
+  pub next : Invariant day (s .kernel) (lastThen (s .answer) r l (runner k) last) (openThen (s .answer) r l (runner k) was)
+  pub counts-same : s .kernel .counts ≡ k .counts
+  pub runs : s .answer .running ≡ runner (s .kernel)
+  pub marked : (i : ℕ) → i < k .counts .tasks → Marked (accepted (s .answer) && prevents r i) (taskAt (k .tasks) i) (taskAt (s .kernel .tasks) i) (has i (s .answer .due)) (has i (s .answer .started)) (has i (s .answer .ended)) (has i (s .answer .lost))
+  pub values : (v : Wait) (x : ℕ) → Law v (level v (s .kernel .locks) x) (grantsIn (k .counts .tasks) v x (lastThen (s .answer) r l (runner k) last) (s .answer .granted)) (bit (accepted (s .answer)) * counts v x (namesIn gives r l)) (level v (k .locks) x)
+  pub grants : (i : ℕ) → i < k .counts .tasks → has i (s .answer .granted) ≡ 1 → openNow (s .answer) r l (runner k) was i ≡ true
+  pub never-1 : s .answer .number ≢ 1
+  pub begun : s .kernel .begun ≡ (k .begun || accepted (s .answer))
+  pub declared : Declared (k .counts .tasks) (s .answer .due) (s .answer .started) (s .answer .ended) (s .answer .lost) (s .answer .granted)
+
+or-more : (a b c : Bool) → (a || (b && c)) ≡ true → (a || b) ≡ true
+or-more true b c e = refl
+or-more false true c e = refl
+or-more false false c e = e
+
+module _ (day : ℕ) (isDay : IsDay day) (k : Kernel) (last : Asking) (was : Open) (h : Invariant day k last was) where
+  abbrev n : ℕ
+  n = k .counts .tasks
+
+  refused-books : (r : Read) (l : List ℕ) (m : ℕ) → suc m ≢ 1 → StepBooks day k last was r l (refuse k (suc m) (runner k))
+  unfolding refuse
+  refused-books r l m ne =
+      let no : eqb (suc m) 0 ≡ false = ne-eqb (suc m) 0 (λ z. omega arith) in
+      record {
+        next =
+            record {
+              ok = h .ok;
+              ties = rw no (h .ties);
+              opens = λ i q. rw (no, has-empty i) (simp tests (h .opens i q));
+              exclusive = h .exclusive;
+            };
+        counts-same = refl;
+        runs = refl;
+        marked = λ i q. rw (no, has-empty i) (still-marked (taskAt (k .tasks) i) (taskAt (k .tasks) i) refl refl);
+        values = λ v x. rw (no, no-grants n v x last) (zeros v x (counts v x (namesIn gives r l)));
+        grants = λ i q e. absurd (omega (arith, has-empty i));
+        never-1 = ne;
+        begun = rw no (simp tests);
+        declared = only-granted n 0 (pow-pos n);
+      }
+    where
+      zeros : (v : Wait) (x c : ℕ) → Law v (level v (k .locks) x) 0 (0 * c) (level v (k .locks) x)
+      zeros v x c = let z : 0 * c ≡ 0 = omega arith in rw z (law-refl v (level v (k .locks) x))
+
+  module _ (d : Head) (l : List ℕ) where
+    finish-books : (w : Work) → Did day k (callWith d l) (role (d .mark)) w → StepBooks day k last was (Accepted d) l (finish k w)
+    unfolding finish asks gives
+    finish-books w did =
+        let c = callWith d l in
+        let r = role (d .mark) in
+        let last′ = lastIf (record { kind = r .asks; list = named c }) (runner k) last in
+        let b = did-books day k (h .ok) c last did in
+        let o = did-ok day k (h .ok) did in
+        let p = begin day k (h .ok) w in
+        let before : Open = waitsNow r (runner k) (waitingIn k) (w .ended) in
+        let asking : Open = λ i. (waitingIn k i && not (isIn (w .ended) i)) || asksIf (r .asks) (runner k) i in
+        let s = served-books day k (h .ok) last′ before asking (λ i. or-more (waitingIn k i && not (isIn (w .ended) i)) (asksIf (r .asks) (runner k) i) (r .stays)) p
+        (record {
+          ok = begin-ok day k (h .ok) w o;
+          kept-same = λ i. refl;
+          alive-same = λ i. refl;
+          ties = b .ties (h .ties);
+          waits = b .waits;
+          asked = λ i q e. or-right (waitingIn k i && not (isIn (w .ended) i)) (asksIf (r .asks) (runner k) i) (b .asked i q e);
+          granted-lt = b .declared .granted;
+          values = λ v x. moved-refl v (level v (w .locks) x) (grantsIn n v x last′ (w .granted));
+          exclusive = b .exclusive (h .exclusive);
+        }) in
+        record {
+          next =
+              record {
+                ok = finish-ok day k (h .ok) w o;
+                ties = s .ties;
+                opens = λ i q. rw (h .opens i q) (sym (s .waits i q));
+                exclusive = s .exclusive;
+              };
+          counts-same = refl;
+          runs = refl;
+          marked = λ i q.
+              let m = b .marked i q in
+              record { starts = rw (s .kept-same i) (m .starts); ends = rw (s .alive-same i) (m .ends); lost = m .lost };
+          values = λ v x.
+              let z = law-moved v (level v (k .locks) x) (level v (w .locks) x) _ _ _ (counts v x (record { kind = r .gives; list = named c })) (b .values v x) (s .values v x) in
+              let one : 1 * counts v x (record { kind = r .gives; list = named c }) ≡ counts v x (record { kind = r .gives; list = named c }) = omega arith in
+              rw one z;
+          grants = λ i q e. rw (h .opens i q) (s .asked i q e);
+          never-1 = λ z. omega arith;
+          begun = simp tests;
+          declared =
+              let m = b .declared in
+              record { due = m .due; started = m .started; ended = m .ended; lost = m .lost; granted = s .granted-lt };
+        }
+
+    carry-books : d .priority < 256 → not (accepted (carryOn day k (callWith d l) .answer) && declares (d .mark)) ≡ true → StepBooks day k last was (Accepted d) l (carryOn day k (callWith d l))
+    unfolding carryOn
+    carry-books b o = go (refusalOf day k (callWith d l)) refl o
+      where
+        go : (m : ℕ) → refusalOf day k (callWith d l) ≡ m → not (accepted (orRefuse k m (carryOut day (d .mark) k (callWith d l)) .answer) && declares (d .mark)) ≡ true → StepBooks day k last was (Accepted d) l (orRefuse k m (carryOut day (d .mark) k (callWith d l)))
+        go (suc m) e q = refused-books (Accepted d) l m (λ z. refusal-not-1 day k (callWith d l) (e ∙ z))
+        go zero e q =
+            byBool (declares (d .mark)) (λ z. contra q (rw (carried-number day k (callWith d l) (d .mark), z)))
+            (λ z. let x = call-carried day isDay k (h .ok) (callWith d l) (omega arith) (d .mark) z (all-passed day k (callWith d l) e) in rw (x .same) (finish-books (x .work) (x .did)))
+
+  -- A record that reads as r with the list l.
+  read-books : (r : Read) (l : List ℕ) → ((m : ℕ) → r ≡ Refused m → m ≡ 2) → ((d : Head) → r ≡ Accepted d → d .priority < 256)
+      → not (accepted (stepRead day k r l .answer) && declaration r) ≡ true → StepBooks day k last was r l (stepRead day k r l)
+  read-books (Refused m) l two byte o = let e = two m refl in rw e (refused-books (Refused 2) l 1 (λ z. omega arith))
+  read-books (Accepted d) l two byte o = carry-books d l (byte d refl) o
+
+  pub step-books : (s : List ℕ) → Octets s → not (accepted (step day k s .answer) && declaration (opened s .answer)) ≡ true
+      → StepBooks day k last was (opened s .answer) (opened s .list) (step day k s)
+  step-books s o q =
+      let on = step-on day k s (passes-of-ok day k (h .ok) .tested) in
+      rw on (read-books (opened s .answer) (opened s .list) (opened-refused s) (λ d e. opened-priority s d o e) (rw on at q))

@@ -1,0 +1,103 @@
+-- The balance, demand 3: one statement about every list of records from a fresh kernel. Proved in proofs/Balanced.antt.
+use mathlib.Core.Path.{_≡_}
+use mathlib.Core.Logic.{_≢_}
+use mathlib.Core.Bool.{Bool, true, false, _&&_, _||_}
+use mathlib.Core.List.{List, [], _∷_}
+use Prim.Native.Nat.{ℕ, _+_, _<_, _≤_, _^_}
+use lib.Dec.{eqb}
+use Rattle.record.specs.Marks.{is}
+use Rattle.record.specs.Reading.{opened}
+use Rattle.record.specs.declared.Mark.the-variants.{PR}
+use Rattle.record.specs.declared.Read.{Read}
+use Rattle.record.specs.declared.Read.the-variants.{Refused, Accepted}
+use Rattle.lock.specs.Locks.{bit, waiting, level}
+use Rattle.lock.specs.declared.Wait.the-variants.{Request, Reserve, Enter}
+use Rattle.task.specs.State.{isKept}
+use Rattle.kernel.specs.Sets.{has}
+use Rattle.kernel.specs.State.{taskAt}
+use Rattle.kernel.specs.Granting.{servable}
+use Rattle.kernel.specs.Test.{valid}
+use Rattle.kernel.specs.Step.{step}
+use Rattle.kernel.specs.Log.{Entry, final, log}
+use Rattle.kernel.specs.Invariants.{IsDay}
+use Rattle.kernel.specs.declared.Kernel.{Kernel}
+use Rattle.kernel.specs.declared.Answer.{Answer}
+use Rattle.kernel.specs.declared.Running.the-variants.{Idle}
+use Rattle.balance.specs.Counting.{count, accepted, returned, granted, noneOpen, GrantsOpen, openFrom}
+use Rattle.balance.specs.Fresh.{AllOctets, Fresh, acceptedDeclaration, without}
+
+-- ---- sums over the log, from the fresh kernel k to the last kernel z
+
+pub record Sums (k : Kernel) (es : List Entry) (z : Kernel) : Type 0 where
+  -- dues = starts + losses + the one kept back
+  pub dues : (i : ℕ) → i < k .counts .tasks
+      → count (λ a. a .due) i es
+      ≡ count (λ a. a .started) i es + count (λ a. a .lost) i es + bit (isKept (taskAt (z .tasks) i .kept))
+  -- starts = ends + the one alive
+  pub starts : (i : ℕ) → i < k .counts .tasks
+      → count (λ a. a .started) i es ≡ count (λ a. a .ended) i es + bit (taskAt (z .tasks) i .alive)
+  -- value + grants = preset + releases
+  pub values : (s : ℕ) → s < k .counts .semaphores
+      → level Request (z .locks) s + granted (k .counts .tasks) Request s es
+      ≡ level Request (k .locks) s + returned Request s es
+  -- readers + leaves = entries granted
+  pub readers : (b : ℕ) → b < k .counts .bolts
+      → level Enter (z .locks) b + returned Enter b es ≡ granted (k .counts .tasks) Enter b es
+  -- writer + frees = reserves granted; a writer is 0 or 1
+  pub writers : (b : ℕ) → b < k .counts .bolts
+      → level Reserve (z .locks) b + returned Reserve b es ≡ granted (k .counts .tasks) Reserve b es
+  pub writer : (b : ℕ) → b < k .counts .bolts → level Reserve (z .locks) b ≤ 1
+  -- never a writer together with a reader
+  pub exclusive : (b : ℕ) → b < k .counts .bolts → level Reserve (z .locks) b ≡ 1 → level Enter (z .locks) b ≡ 0
+  -- each granted mark belongs to an asking not granted before, and those left open are the ones that wait
+  pub grants : GrantsOpen (k .counts .tasks) Idle noneOpen es
+  pub waiters : (i : ℕ) → i < k .counts .tasks → waiting (taskAt (z .tasks) i .wait) ≡ openFrom Idle noneOpen es i
+  -- no task waits while its whole list could be granted
+  pub nobody : (i : ℕ) → i < k .counts .tasks → servable (z .counts .tasks) (z .tasks) (z .locks) i ≡ false
+  -- the counts declared stay
+  pub counts : z .counts ≡ k .counts
+
+-- ---- at each record of the list, with the kernel handed in
+
+abbrev pub prevents : Read → ℕ → Bool
+prevents (Refused n) i = false
+prevents (Accepted h) i = is (h .mark) PR && eqb (h .number) i
+
+-- Lost: due while alive with a start kept back, or an accepted PR of a start kept back.
+abbrev pub loses : Kernel → List ℕ → Answer → ℕ → Bool
+loses k r a i =
+    isKept (taskAt (k .tasks) i .kept)
+    && ((eqb (has i (a .due)) 1 && taskAt (k .tasks) i .alive) || (accepted a && prevents (opened r .answer) i))
+
+pub record RightStep (day : ℕ) (k : Kernel) (r : List ℕ) (a : Answer) (z : Kernel) : Type 0 where
+  -- every kernel on the way passes the kernel test, so refusal 1 never arises
+  pub tested : valid day k ≡ true
+  pub never-1 : a .number ≢ 1
+  -- lost exactly when the rule says so
+  pub lost : (i : ℕ) → i < k .counts .tasks → has i (a .lost) ≡ bit (loses k r a i)
+  -- sets name declared tasks only
+  pub due-declared : a .due < 2 ^ k .counts .tasks
+  pub started-declared : a .started < 2 ^ k .counts .tasks
+  pub ended-declared : a .ended < 2 ^ k .counts .tasks
+  pub lost-declared : a .lost < 2 ^ k .counts .tasks
+  pub granted-declared : a .granted < 2 ^ k .counts .tasks
+  -- a call was accepted after this record exactly when one was before or is now
+  pub begun : z .begun ≡ (k .begun || accepted a)
+
+unfoldable pub AtEachRecord : ℕ → Kernel → List (List ℕ) → Type 0
+AtEachRecord day k [] = Unit {0}
+AtEachRecord day k (r ∷ rs) =
+    RightStep day k r (step day k r .answer) (step day k r .kernel) × AtEachRecord day (step day k r .kernel) rs
+
+-- ---- the theorem
+
+pub record Balanced (day : ℕ) (k : Kernel) (rs : List (List ℕ)) : Type 0 where
+  pub sums : Sums k (log day k rs) (final day k rs)
+  pub each : AtEachRecord day k rs
+  pub last-tested : valid day (final day k rs) ≡ true
+
+-- For every fresh kernel and every list of records, whatever their bytes, without an accepted declaration among them.
+abbrev pub Balance : Type 0
+Balance =
+    (day : ℕ) → IsDay day → (k : Kernel) → Fresh day k → (rs : List (List ℕ)) → AllOctets rs
+    → without acceptedDeclaration (log day k rs) ≡ true → Balanced day k rs

@@ -1,0 +1,53 @@
+-- Fresh kernels: nothing declared, or accepted declarations only.
+use mathlib.Core.Path.{_≡_}
+use mathlib.Core.Bool.{Bool, true, false, not, _&&_}
+use mathlib.Core.List.{List, [], _∷_}
+use Prim.Native.Nat.{ℕ, _<_}
+use Rattle.record.specs.Reading.{opened}
+use Rattle.record.specs.Promises.{Octets}
+use Rattle.record.specs.declared.Read.{Read}
+use Rattle.record.specs.declared.Read.the-variants.{Refused, Accepted}
+use Rattle.lock.specs.Locks.{emptyBolt, boltAt}
+use Rattle.kernel.specs.State.{taskAt, enabledAt, freshTask, nothing}
+use Rattle.kernel.specs.Test.{valid}
+use Rattle.kernel.specs.Refusals.{declares}
+use Rattle.kernel.specs.Log.{Entry, final, log}
+use Rattle.kernel.specs.Invariants.{IsDay, Tables}
+use Rattle.kernel.specs.declared.Kernel.{Kernel}
+use Rattle.balance.specs.Counting.{accepted}
+
+-- Records are lists of bytes, of any length.
+unfoldable pub AllOctets : List (List ℕ) → Type 0
+AllOctets [] = Unit {0}
+AllOctets (r ∷ rs) = Octets r × AllOctets rs
+
+-- A fresh kernel.
+pub record Fresh (day : ℕ) (k : Kernel) : Type 0 where
+  pub tables : Tables k
+  pub tested : valid day k ≡ true
+  pub instant : k .now .0 ≡ 0
+  pub unbegun : k .begun ≡ false
+  pub tasks : (i : ℕ) → i < k .counts .tasks → taskAt (k .tasks) i ≡ freshTask (taskAt (k .tasks) i .declared)
+  pub bolts : (b : ℕ) → b < k .counts .bolts → boltAt (k .locks) b ≡ emptyBolt
+  pub enabled : (i : ℕ) → i < k .counts .interrupts → enabledAt k i ≡ false
+
+abbrev pub declaration : Read → Bool
+declaration (Refused n) = false
+declaration (Accepted h) = declares (h .mark)
+
+abbrev pub acceptedDeclaration : Entry → Bool
+acceptedDeclaration e = accepted (e .answer) && declaration (opened (e .bytes) .answer)
+
+abbrev pub acceptedCall : Entry → Bool
+acceptedCall e = accepted (e .answer) && not (declaration (opened (e .bytes) .answer))
+
+-- No entry passes a test.
+unfoldable pub without : (Entry → Bool) → List Entry → Bool
+without f [] = true
+without f (e ∷ es) = not (f e) && without f es
+
+-- Accepted declarations only, with refused records among them, leave a fresh kernel.
+abbrev pub DeclaredIsFresh : Type 0
+DeclaredIsFresh =
+    (day : ℕ) → IsDay day → (rs : List (List ℕ)) → AllOctets rs → without acceptedCall (log day nothing rs) ≡ true
+    → Fresh day (final day nothing rs)

@@ -1,0 +1,177 @@
+-- While nothing comes, ticks only move the instant.
+use mathlib.Core.Path.{_≡_, refl, ap, ap₂, _∙_}
+use mathlib.Core.Bool.{Bool, true, false, _&&_}
+use mathlib.Core.List.{List, [], _∷_, _++_, map}
+use Prim.Native.Nat.{ℕ, zero, suc, _+_, _≤_, _<_}
+use native.Mathlib.Nat.{not-suc-le-zero}
+use native.Mathlib.Omega.{arith}
+use lib.Dec.{leb}
+use lib.ListN.{length, drop}
+use borrow.Author.Tests.{leb-true, le-leb, lt-ltb, not-true}
+use Rattle.calendar.specs.Limits.{lastInstant, isTimeOfDay}
+use Rattle.calendar.specs.Times.{duration, plus}
+use Rattle.calendar.specs.declared.Instant.{Instant}
+use Rattle.record.specs.Marks.{among}
+use Rattle.record.specs.Fields.{callOf, headOf, listOf, bytesOf}
+use Rattle.record.specs.Lists.{allZero}
+use Rattle.record.specs.Refusals.{mostValue, uses, cleanNames, cleanStart, ranged, formed, listed, timed, shape, times}
+use Rattle.record.specs.Reading.{opened}
+use Rattle.record.specs.declared.Mark.the-variants.{TI}
+use Rattle.lock.specs.Locks.{valueAt, boltAt}
+use Rattle.task.specs.Schedules.{falls}
+use Rattle.task.specs.Turns.{unmarked, delayEnds, wake, fallTurn, tickTurn}
+use Rattle.task.specs.declared.Task.{Task}
+use Rattle.task.specs.declared.Turn.{Turn}
+use Rattle.kernel.specs.declared.Counts.{Counts}
+use Rattle.kernel.specs.declared.Kernel.{Kernel}
+use Rattle.kernel.specs.declared.Stepped.{Stepped}
+use Rattle.kernel.specs.Sets.{setOf}
+use Rattle.kernel.specs.State.{mostTasks, mostSemaphores, mostBolts, mostInterrupts, taskAt, begunAt}
+use Rattle.kernel.specs.Running.{runner, urgency}
+use Rattle.kernel.specs.Granting.{servable}
+use Rattle.kernel.specs.Work.{turns, everyTurn}
+use Rattle.kernel.specs.Serving.{serve}
+use Rattle.kernel.specs.Test.{taskOk, allBelow, countsOk, nobodyServable, valid}
+use Rattle.kernel.specs.Refusals.{declares, declaredIn, roomFor, formalRefusal, stateRefusalOf, refusalOf}
+use Rattle.kernel.specs.Calls.{tick}
+use Rattle.kernel.specs.Step.{plainAnswer, finish, carryOut, carryOn, step}
+use Rattle.kernel.specs.Log.{final, log}
+use Rattle.kernel.specs.Scripts.{row, oneTick}
+use Rattle.kernel.specs.Quiet.{comes, Quiet, later, TicksAreQuiet}
+use Rattle.lock.proofs.Bools.{both, neither}
+use Rattle.kernel.proofs.Below.{all-at, mostUrgent-none}
+
+-- ---- turns that mark nothing and leave their tasks
+
+module _ (f : Task → Turn) where
+  kept-tasks : (n : ℕ) (ts : List Task) → n ≤ length ts
+      → ((i : ℕ) → i < n → f (taskAt ts i) ≡ unmarked (taskAt ts i))
+      → map (λ u. u .task) (turns n f ts) ++ drop n ts ≡ ts
+  kept-tasks zero ts h e = refl
+  kept-tasks (suc n) [] h e = absurd (not-suc-le-zero h)
+  kept-tasks (suc n) (t ∷ ts) h e =
+      ap₂ (λ (a : Task) (b : List Task). a ∷ b) (ap (λ u. u .task) (e 0 (omega arith)))
+      (kept-tasks n ts (omega arith) (λ i l. e (suc i) (omega arith)))
+
+  no-marks : (g : Turn → Bool) → ((t : Task) → g (unmarked t) ≡ false)
+      → (n : ℕ) (ts : List Task) → n ≤ length ts
+      → ((i : ℕ) → i < n → f (taskAt ts i) ≡ unmarked (taskAt ts i))
+      → setOf (map g (turns n f ts)) ≡ 0
+  unfolding setOf
+  no-marks g z zero ts h e = refl
+  no-marks g z (suc n) [] h e = absurd (not-suc-le-zero h)
+  no-marks g z (suc n) (t ∷ ts) h e =
+      let a : g (f t) ≡ false = ap g (e 0 (omega arith)) ∙ z t in
+      rw (a, no-marks g z n ts (omega arith) (λ i l. e (suc i) (omega arith)))
+
+quiet-turn : (n : Instant) (t : Task) → comes n t ≡ false → tickTurn n t ≡ unmarked t
+unfolding fallTurn wake
+quiet-turn n t e =
+    let p = neither (falls n (t .schedule .alarm)) (delayEnds n (t .hold)) e in
+    rw (p .1, p .0)
+
+-- ---- what the kernel test tells
+
+module _ (day : ℕ) (k : Kernel) where
+  tested : valid day k ≡ true → (countsOk (k .counts) ≡ true) × (nobodyServable k ≡ true)
+  unfolding valid
+  tested v =
+      let g = both _ (nobodyServable k) v in
+      let f = both _ (allBelow (k .counts .tasks) (λ i. taskOk day (k .counts) (taskAt (k .tasks) i))) (g .0) in
+      let e = both _ (allBelow (k .counts .bolts) (λ b. leb (boltAt (k .locks) b .readers) mostValue)) (f .0) in
+      let d = both _ (allBelow (k .counts .semaphores) (λ s. leb (valueAt (k .locks) s) mostValue)) (e .0) in
+      (both (leb (k .now .0) lastInstant && isTimeOfDay day (k .clock)) (countsOk (k .counts)) (d .0) .1, g .1)
+
+  few-tasks : valid day k ≡ true → k .counts .tasks ≤ mostTasks
+  unfolding countsOk
+  few-tasks v =
+      let n = k .counts in
+      let a = both _ (leb (n .interrupts) mostInterrupts) (tested v .0) in
+      let b = both _ (leb (n .bolts) mostBolts) (a .0) in
+      leb-true _ _ (both (leb (n .tasks) mostTasks) (leb (n .semaphores) mostSemaphores) (b .0) .0)
+
+  nobody : valid day k ≡ true → (i : ℕ) → i < k .counts .tasks → servable (k .counts .tasks) (k .tasks) (k .locks) i ≡ false
+  unfolding nobodyServable
+  nobody v i l = not-true _ (all-at (k .counts .tasks) _ (tested v .1) i l)
+
+  pub still-valid : (n : Instant) → k .now .0 ≤ lastInstant → n .0 ≤ lastInstant → valid day k ≡ true → valid day (begunAt n k) ≡ true
+  unfolding valid nobodyServable
+  still-valid n a b v = rw (le-leb (n .0) lastInstant b) (rw (le-leb (k .now .0) lastInstant a) at v)
+
+-- ---- one tick
+
+-- Its record is well-formed for every kernel.
+tick-formed : (day : ℕ) (n : Counts) (b : Bool) → formalRefusal day n b (callOf TI oneTick) ≡ 0
+unfolding formalRefusal declares declaredIn roomFor shape times timed formed listed ranged cleanStart cleanNames uses allZero headOf listOf bytesOf
+tick-formed day n true = refl
+tick-formed day n false = refl
+
+module _ (day : ℕ) (k : Kernel) (room : length (k .tasks) ≡ mostTasks) (v : valid day k ≡ true) where
+  nobody-served : (g turns : ℕ)
+      → serve (k .counts .tasks) turns (record { tasks = k .tasks; locks = k .locks; granted = g })
+      ≡ record { tasks = k .tasks; locks = k .locks; granted = g }
+  unfolding serve
+  nobody-served g zero = refl
+  nobody-served g (suc n) =
+      rw (
+        mostUrgent-none (k .counts .tasks) (servable (k .counts .tasks) (k .tasks) (k .locks)) (urgency (k .tasks))
+            (nobody day k v),
+        serve,
+      )
+
+  tick-moves : Quiet 1 k
+      → finish k (tick k)
+      ≡ record { kernel = begunAt (plus (k .now) (duration 1)) k; answer = plainAnswer 0 (runner k) }
+  unfolding finish tick everyTurn
+  tick-moves q =
+      let n = k .counts .tasks in
+      let f = tickTurn (plus (k .now) (duration 1)) in
+      let r : n ≤ length (k .tasks) = omega (arith, few-tasks day k v) in
+      let e : (i : ℕ) → i < n → f (taskAt (k .tasks) i) ≡ unmarked (taskAt (k .tasks) i) =
+      λ i l. quiet-turn (plus (k .now) (duration 1)) (taskAt (k .tasks) i) (q i l (k .now .0 + 1) (omega arith) (omega arith)) in
+      rw (
+        kept-tasks f n (k .tasks) r e,
+        no-marks f (λ u. u .due) (λ t. refl) n (k .tasks) r e,
+        no-marks f (λ u. u .started) (λ t. refl) n (k .tasks) r e,
+        no-marks f (λ u. u .ended) (λ t. refl) n (k .tasks) r e,
+        no-marks f (λ u. u .lost) (λ t. refl) n (k .tasks) r e,
+        nobody-served 0 n,
+      )
+
+  pub quiet-step : Quiet 1 k → k .now .0 < lastInstant
+      → step day k oneTick
+      ≡ record { kernel = begunAt (plus (k .now) (duration 1)) k; answer = plainAnswer 0 (runner k) }
+  unfolding step carryOn carryOut refusalOf stateRefusalOf opened among headOf bytesOf
+  quiet-step q l = rw (v, lt-ltb (k .now .0) lastInstant l, tick-formed day (k .counts) (k .begun)) (tick-moves q)
+
+-- ---- d ticks
+
+next : Kernel → Kernel
+next k = begunAt (plus (k .now) (duration 1)) k
+
+module _ (d : ℕ) (k : Kernel) where
+  quiet-next : Quiet (suc d) k → Quiet d (next k)
+  unfolding next
+  quiet-next q i l x a b = q i l x (omega arith) (omega arith)
+
+  first-quiet : Quiet (suc d) k → Quiet 1 k
+  first-quiet q i l x a b = q i l x a (omega arith)
+
+later-next : (d : ℕ) (k : Kernel) → later d (next k) ≡ later (suc d) k
+unfolding later next
+later-next zero k = refl
+later-next (suc d) k =
+    let e : k .now .0 + 1 + suc d ≡ k .now .0 + suc (suc d) = omega arith in
+    rw e
+
+pub ticks-are-quiet : TicksAreQuiet
+unfolding log final row later next
+ticks-are-quiet day zero k room v q l = record { answers = refl; kernel = refl }
+ticks-are-quiet day (suc d) k room v q l =
+    let s = quiet-step day k room v (first-quiet d k q) (omega arith) in
+    let w = still-valid day k (plus (k .now) (duration 1)) (omega arith) (omega arith) v in
+    let r = ticks-are-quiet day d (next k) room w (quiet-next d k q) (omega arith) in
+    record {
+      answers = rw (s, r .answers);
+      kernel = ap (λ (x : Stepped). final day (x .kernel) (row d oneTick)) s ∙ r .kernel ∙ later-next d k;
+    }

@@ -1,0 +1,98 @@
+-- The scan for the most urgent finds the first that passes, and looks at no other numbers.
+use mathlib.Core.Path.{_≡_, refl}
+use mathlib.Core.Bool.{Bool, true, false}
+use mathlib.Core.List.{List}
+use Prim.Native.Nat.{ℕ, zero, suc, _≤_, _<_}
+use native.Mathlib.Nat.{not-suc-le-zero}
+use native.Mathlib.Omega.{arith}
+use lib.Dec.{ltb}
+use borrow.Author.Tests.{ltb-true, ltb-false}
+use Rattle.lock.proofs.Bools.{byBool, byEq, contra}
+use Rattle.task.specs.State.{runnable}
+use Rattle.task.specs.declared.Task.{Task}
+use Rattle.kernel.specs.declared.Kernel.{Kernel}
+use Rattle.kernel.specs.declared.Running.{Running}
+use Rattle.kernel.specs.declared.Running.the-variants.{Idle, Runs}
+use Rattle.kernel.specs.State.{mostTasks, taskAt}
+use Rattle.kernel.specs.Running.{urgency, better, mostUrgent, runningOf, runner}
+use Rattle.kernel.specs.Granting.{servable}
+use Rattle.kernel.specs.Promises.{Chosen, ScanFindsFirst, RunnerIsFirst, NextServedIsFirst}
+
+-- What the scan finds by a number u: the smallest u, or nothing where none passes.
+abbrev Found : ℕ → (ℕ → Bool) → (ℕ → ℕ) → Running → Type 0
+Found n test u Idle = (j : ℕ) → j < n → test j ≡ false
+Found n test u (Runs i) = (i < n) × (test i ≡ true) × ((j : ℕ) → j < n → test j ≡ true → u i ≤ u j)
+
+module _ (n : ℕ) (test : ℕ → Bool) (u : ℕ → ℕ) where
+  -- One more number, that doesn't pass.
+  passed-over : (r : Running) → test n ≡ false → Found n test u r → Found (suc n) test u r
+  passed-over Idle e f = λ j l. byEq j n (λ q. rw q e) (λ q. f j (omega arith))
+  passed-over (Runs i) e f =
+      (omega arith, f .1, λ j l t. byEq j n (λ q. contra t (rw q e)) (λ q. f .2 j (omega arith) t))
+
+  -- One more number, that passes.
+  weighed : (r : Running) → test n ≡ true → Found n test u r → Found (suc n) test u (better u r n)
+  weighed Idle e f = (omega arith, e, λ j l t. byEq j n (λ q. rw q (omega arith)) (λ q. contra t (f j (omega arith))))
+  weighed (Runs i) e f =
+      byBool (ltb (u n) (u i))
+      (λ b. let lt = ltb-true (u n) (u i) b in rw b
+      (omega arith, e, λ j l t. byEq j n (λ q. rw q (omega arith)) (λ q. let h = f .2 j (omega arith) t in omega arith)))
+      (λ b. let le = ltb-false (u n) (u i) b in rw b
+      (omega arith, f .1, λ j l t. byEq j n (λ q. rw q le) (λ q. f .2 j (omega arith) t)))
+
+scan-finds : (n : ℕ) (test : ℕ → Bool) (u : ℕ → ℕ) → Found n test u (mostUrgent n test u)
+unfolding mostUrgent
+scan-finds zero test u = λ j l. absurd (not-suc-le-zero l)
+scan-finds (suc n) test u =
+    byBool (test n) (λ e. rw e (weighed n test u (mostUrgent n test u) e (scan-finds n test u)))
+    (λ e. rw e (passed-over n test u (mostUrgent n test u) e (scan-finds n test u)))
+
+-- The number orders by priority, then by task number.
+first-of-found : (n : ℕ) (test : ℕ → Bool) (ts : List Task) → n ≤ mostTasks → (r : Running) → Found n test (urgency ts) r → Chosen n test ts r
+unfolding urgency
+first-of-found n test ts h Idle f = f
+first-of-found n test ts h (Runs i) f =
+    record {
+      below = f .0;
+      passes = f .1;
+      smallest = λ j l t. omega (arith, f .0, f .2 j l t);
+      ties = λ j l t e. omega (arith, f .0, f .2 j l t);
+    }
+
+pub scan-first : ScanFindsFirst
+scan-first n test ts h = first-of-found n test ts h (mostUrgent n test (urgency ts)) (scan-finds n test (urgency ts))
+
+pub runner-first : RunnerIsFirst
+unfolding runningOf
+runner-first k h = scan-first (k .counts .tasks) (λ i. runnable (taskAt (k .tasks) i)) (k .tasks) h
+
+pub next-served-first : NextServedIsFirst
+next-served-first n p h = scan-first n (servable n (p .tasks) (p .locks)) (p .tasks) h
+
+-- What is found is below n.
+abbrev pub Below : ℕ → Running → Type 0
+Below n Idle = Unit {0}
+Below n (Runs i) = i < n
+
+pub runner-below : (k : Kernel) → Below (k .counts .tasks) (runner k)
+unfolding runningOf
+runner-below k = below (runner k) (scan-finds (k .counts .tasks) (λ i. runnable (taskAt (k .tasks) i)) (urgency (k .tasks)))
+  where
+    below : (r : Running) → Found (k .counts .tasks) (λ i. runnable (taskAt (k .tasks) i)) (urgency (k .tasks)) r → Below (k .counts .tasks) r
+    below Idle f = tt
+    below (Runs i) f = f .0
+
+-- The scan looks only at numbers below n.
+better-same : (n : ℕ) (test : ℕ → Bool) (u u′ : ℕ → ℕ) → ((i : ℕ) → i < suc n → u i ≡ u′ i) → (r : Running) → Found n test u r
+    → better u r n ≡ better u′ r n
+better-same n test u u′ g Idle f = refl
+better-same n test u u′ g (Runs i) f = rw (g n (omega arith), g i (omega (arith, f .0)))
+
+pub scan-same : (n : ℕ) (test test′ : ℕ → Bool) (u u′ : ℕ → ℕ) → ((i : ℕ) → i < n → test i ≡ test′ i) → ((i : ℕ) → i < n → u i ≡ u′ i)
+    → mostUrgent n test u ≡ mostUrgent n test′ u′
+unfolding mostUrgent
+scan-same zero test test′ u u′ h g = refl
+scan-same (suc n) test test′ u u′ h g =
+    let ih = scan-same n test test′ u u′ (λ i l. h i (omega arith)) (λ i l. g i (omega arith)) in
+    let b = better-same n test u u′ g (mostUrgent n test u) (scan-finds n test u) in
+    rw (h n (omega arith), b, ih)

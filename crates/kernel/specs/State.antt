@@ -1,0 +1,131 @@
+-- What a kernel holds (document 01), and the kernel with one part changed.
+use mathlib.Core.Bool.{Bool, true, false}
+use mathlib.Core.List.{List, [], _∷_}
+use Prim.Native.Nat.{ℕ}
+use lib.ListN.{getD, set, replicate}
+use Rattle.calendar.specs.Times.{instant}
+use Rattle.calendar.specs.declared.Instant.{Instant}
+use Rattle.lock.specs.Locks.{emptyBolt}
+use Rattle.lock.specs.declared.Wait.{Wait}
+use Rattle.lock.specs.declared.Wait.the-variants.{Nothing, Request, Reserve, Enter}
+use Rattle.lock.specs.declared.Locks.{Locks}
+use Rattle.task.specs.State.{noTask, noSchedule}
+use Rattle.task.specs.declared.Hold.the-variants.{Unheld}
+use Rattle.task.specs.declared.Kept.the-variants.{Empty}
+use Rattle.task.specs.declared.Task.{Task}
+use Rattle.kernel.specs.declared.Counts.{Counts}
+use Rattle.kernel.specs.declared.Kernel.{Kernel}
+
+-- ---- how many of each kind there can be
+
+abbrev pub mostTasks : ℕ
+mostTasks = 32
+
+abbrev pub mostSemaphores : ℕ
+mostSemaphores = 16
+
+abbrev pub mostBolts : ℕ
+mostBolts = 16
+
+abbrev pub mostInterrupts : ℕ
+mostInterrupts = 8
+
+-- ---- one place
+
+abbrev pub taskAt : List Task → ℕ → Task
+taskAt ts i = getD ts i noTask
+
+abbrev pub enabledAt : Kernel → ℕ → Bool
+enabledAt k i = getD (k .enabled) i false
+
+-- How many numbers a list of a kind can name.
+abbrev pub countOf : Counts → Wait → ℕ
+countOf n Nothing = 0
+countOf n Request = n .semaphores
+countOf n Reserve = n .bolts
+countOf n Enter = n .bolts
+
+-- ---- a fresh kernel
+
+-- A declared task: terminated, its current priority the declared one, with no schedule.
+unfoldable pub freshTask : ℕ → Task
+freshTask p =
+    record {
+      declared = p;
+      current = p;
+      alive = false;
+      kept = Empty;
+      wait = Nothing;
+      len = 0;
+      list = 0 ∷ 0 ∷ 0 ∷ 0 ∷ [];
+      hold = Unheld;
+      schedule = noSchedule;
+    }
+
+-- A place of the table of tasks in which none is declared.
+abbrev pub vacant : Task
+vacant = freshTask 0
+
+-- Nothing is declared.
+unfoldable pub nothing : Kernel
+nothing =
+    record {
+      tasks = replicate mostTasks vacant;
+      locks = record { semaphores = replicate mostSemaphores 0; bolts = replicate mostBolts emptyBolt };
+      enabled = replicate mostInterrupts false;
+      counts = record { tasks = 0; semaphores = 0; bolts = 0; interrupts = 0 };
+      clock = 0;
+      now = instant 0;
+      begun = false;
+    }
+
+-- ---- a kernel with some parts changed
+
+abbrev pub withState : List Task → Locks → List Bool → Kernel → Kernel
+withState ts r is k =
+    record {
+      tasks = ts;
+      locks = r;
+      enabled = is;
+      counts = k .counts;
+      clock = k .clock;
+      now = k .now;
+      begun = k .begun;
+    }
+
+abbrev pub withCounts : Counts → Kernel → Kernel
+withCounts n k =
+    record {
+      tasks = k .tasks;
+      locks = k .locks;
+      enabled = k .enabled;
+      counts = n;
+      clock = k .clock;
+      now = k .now;
+      begun = k .begun;
+    }
+
+abbrev pub withClock : ℕ → Kernel → Kernel
+withClock t k =
+    record {
+      tasks = k .tasks;
+      locks = k .locks;
+      enabled = k .enabled;
+      counts = k .counts;
+      clock = t;
+      now = k .now;
+      begun = k .begun;
+    }
+
+-- The kernel after an accepted call, at instant n.
+abbrev pub begunAt : Instant → Kernel → Kernel
+begunAt n k =
+    record {
+      tasks = k .tasks;
+      locks = k .locks;
+      enabled = k .enabled;
+      counts = k .counts;
+      clock = k .clock;
+      now = n;
+      begun = true;
+    }

@@ -1,0 +1,88 @@
+-- Locks that are alike at the declared numbers pass the same tests there, and stay alike under every change.
+use mathlib.Core.Path.{_≡_, refl, ap}
+use mathlib.Core.Bool.{Bool, true}
+use mathlib.Core.List.{List, [], _∷_}
+use Prim.Native.Nat.{ℕ, _≤_, _<_}
+use lib.Dec.{ltb}
+use borrow.Author.Tests.{ltb-true}
+use Rattle.lock.specs.declared.Wait.{Wait}
+use Rattle.lock.specs.declared.Wait.the-variants.{Nothing, Request, Reserve, Enter}
+use Rattle.lock.specs.declared.Bolt.{Bolt}
+use Rattle.lock.specs.declared.Locks.{Locks}
+use Rattle.lock.specs.Locks.{emptyBolt, valueAt, boltAt, free, taken, takeOne, giveOne, every, forEach, takeAll, giveAll}
+use Rattle.lock.proofs.Bools.{both}
+use Rattle.lock.proofs.Changes.{onValue, onBolt, take-cases, give-cases}
+use Rattle.lock.proofs.Tables.{Like, like-set}
+
+-- How many numbers of a kind are declared, of s semaphores and b bolts.
+abbrev pub below : ℕ → ℕ → Wait → ℕ
+below s b Nothing = 0
+below s b Request = s
+below s b Reserve = b
+below s b Enter = b
+
+-- Two tests that agree below m agree on a list of such numbers.
+pub every-below : (f g : ℕ → Bool) (m : ℕ) (l : List ℕ) → every (λ x. ltb x m) l ≡ true → ((x : ℕ) → x < m → f x ≡ g x) → every f l ≡ every g l
+unfolding every
+every-below f g m [] e h = refl
+every-below f g m (x ∷ l) e h =
+    let p = both (ltb x m) (every (λ x. ltb x m) l) e in
+    rw (h x (ltb-true x m (p .0)), every-below f g m l (p .1) h)
+
+-- What is looked at: the first s semaphores and the first b bolts.
+pub record Seen (s b : ℕ) (r r′ : Locks) : Type 0 where
+  pub values : (x : ℕ) → x < s → valueAt r x ≡ valueAt r′ x
+  pub bolts : (x : ℕ) → x < b → boltAt r x ≡ boltAt r′ x
+
+module _ (s b : ℕ) (r r′ : Locks) (h : Seen s b r r′) where
+  pub free-same : (w : Wait) (x : ℕ) → x < below s b w → free w r x ≡ free w r′ x
+  unfolding free
+  free-same Nothing x l = refl
+  free-same Request x l = rw (h .values x l)
+  free-same Reserve x l = rw (h .bolts x l)
+  free-same Enter x l = rw (h .bolts x l)
+
+  pub taken-same : (w : Wait) (x : ℕ) → x < below s b w → taken w r x ≡ taken w r′ x
+  unfolding taken
+  taken-same Nothing x l = refl
+  taken-same Request x l = rw (h .values x l)
+  taken-same Reserve x l = ap (λ (z : Bolt). z .writer) (h .bolts x l)
+  taken-same Enter x l = rw (h .bolts x l)
+
+-- Tables of as many places, ms and mb, that are alike there.
+pub record Alike (ms mb s b : ℕ) (r r′ : Locks) : Type 0 where
+  pub semaphores : Like 0 ms s (r .semaphores) (r′ .semaphores)
+  pub bolts : Like emptyBolt mb b (r .bolts) (r′ .bolts)
+
+module _ (ms mb s b : ℕ) (ls : s ≤ ms) (lb : b ≤ mb) where
+  pub seen : (r r′ : Locks) → Alike ms mb s b r r′ → Seen s b r r′
+  seen r r′ h = record { values = h .semaphores .below; bolts = h .bolts .below }
+
+  -- A change keeps locks alike.
+  abbrev Kept : (Locks → ℕ → Locks) → Type 0
+  Kept f = (r r′ : Locks) (x : ℕ) → Alike ms mb s b r r′ → Alike ms mb s b (f r x) (f r′ x)
+
+  kept-value : (g : ℕ → ℕ) → Kept (onValue g)
+  kept-value g r r′ x h =
+      record {
+        semaphores = like-set 0 ms s (r .semaphores) (r′ .semaphores) (h .semaphores) ls x _ _ (λ l. ap g (h .semaphores .below x l));
+        bolts = h .bolts;
+      }
+
+  kept-bolt : (g : Bolt → Bolt) → Kept (onBolt g)
+  kept-bolt g r r′ x h =
+      record {
+        semaphores = h .semaphores;
+        bolts = like-set emptyBolt mb b (r .bolts) (r′ .bolts) (h .bolts) lb x _ _ (λ l. ap g (h .bolts .below x l));
+      }
+
+  kept-each : (f : Locks → ℕ → Locks) → Kept f → (l : List ℕ) (r r′ : Locks) → Alike ms mb s b r r′ → Alike ms mb s b (forEach f r l) (forEach f r′ l)
+  unfolding forEach
+  kept-each f k [] r r′ h = h
+  kept-each f k (x ∷ l) r r′ h = kept-each f k l (f r x) (f r′ x) (k r r′ x h)
+
+  pub take-alike : (w : Wait) (l : List ℕ) (r r′ : Locks) → Alike ms mb s b r r′ → Alike ms mb s b (takeAll w r l) (takeAll w r′ l)
+  take-alike w = kept-each (takeOne w) (take-cases Kept (λ r r′ x h. h) kept-value kept-bolt w)
+
+  pub give-alike : (w : Wait) (l : List ℕ) (r r′ : Locks) → Alike ms mb s b r r′ → Alike ms mb s b (giveAll w r l) (giveAll w r′ l)
+  give-alike w = kept-each (giveOne w) (give-cases Kept (λ r r′ x h. h) kept-value kept-bolt w)

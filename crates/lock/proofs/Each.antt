@@ -1,0 +1,106 @@
+-- A test or a change of a list is one of each number that it names.
+use mathlib.Core.Path.{_≡_, refl, sym, _∙_}
+use mathlib.Core.Logic.{_≢_}
+use mathlib.Core.Bool.{Bool, true, false, not}
+use mathlib.Core.List.{List, [], _∷_}
+use Prim.Native.Nat.{ℕ}
+use lib.Seq.{getD-set-other, set-comm}
+use borrow.Author.Tests.{eq-eqb, ne-eqb, not-true}
+use Rattle.record.specs.Lists.{names, distinct}
+use Rattle.lock.specs.declared.Bolt.{Bolt}
+use Rattle.lock.specs.declared.Locks.{Locks}
+use Rattle.lock.specs.Locks.{valueAt, boltAt, emptyBolt, takeOne, giveOne, every, forEach}
+use Rattle.lock.specs.Promises.{EveryIsEach, SameAt, Each, ListIsEach}
+use Rattle.lock.proofs.Bools.{byEq, contra, both, and-both}
+use Rattle.lock.proofs.Changes.{onValue, onBolt, take-cases, give-cases}
+
+pub names-head : (x y : ℕ) (l : List ℕ) → x ≢ y → names (x ∷ l) y ≡ names l y
+unfolding names
+names-head x y l h = rw (ne-eqb x y h)
+
+pub names-same : (x : ℕ) (l : List ℕ) → names (x ∷ l) x ≡ true
+unfolding names
+names-same x l = rw (eq-eqb x x refl)
+
+-- ---- tests
+
+names-tail : (x y : ℕ) (l : List ℕ) → names l y ≡ true → names (x ∷ l) y ≡ true
+names-tail x y l n = byEq x y (λ q. rw q (names-same y l)) (λ q. rw (names-head x y l q) n)
+
+pub every-at : (f : ℕ → Bool) (l : List ℕ) → every f l ≡ true → (x : ℕ) → names l x ≡ true → f x ≡ true
+unfolding every names
+every-at f [] e x n = contra n refl
+every-at f (y ∷ l) e x n =
+    let p = both (f y) (every f l) e in
+    byEq y x (λ q. rw (← q) (p .0)) (λ q. every-at f l (p .1) x (rw (ne-eqb y x q) at n))
+
+pub every-from : (f : ℕ → Bool) (l : List ℕ) → ((x : ℕ) → names l x ≡ true → f x ≡ true) → every f l ≡ true
+unfolding every
+every-from f [] h = refl
+every-from f (y ∷ l) h = and-both (h y (names-same y l)) (every-from f l (λ x n. h x (names-tail y x l n)))
+
+pub every-is-each : EveryIsEach
+every-is-each f l = (every-at f l, every-from f l)
+
+-- ---- changes
+
+-- A change at one place: no other place changes, and two of them can change places.
+pub record Local (f : Locks → ℕ → Locks) : Type 0 where
+  pub elsewhere : (r : Locks) (x y : ℕ) → y ≢ x → SameAt (f r x) r y
+  pub swap : (r : Locks) (x y : ℕ) → x ≢ y → f (f r x) y ≡ f (f r y) x
+
+local-none : Local (λ r x. r)
+local-none = record { elsewhere = λ r x y h. record { value = refl; bolt = refl }; swap = λ r x y h. refl }
+
+local-value : (g : ℕ → ℕ) → Local (onValue g)
+local-value g =
+    record {
+      elsewhere = λ r x y h. record { value = getD-set-other (r .semaphores) x y _ 0 h; bolt = refl };
+      swap = λ r x y h. rw (
+        getD-set-other (r .semaphores) x y (g (valueAt r x)) 0 (λ q. h (sym q)),
+        getD-set-other (r .semaphores) y x (g (valueAt r y)) 0 h,
+        set-comm (r .semaphores) x y (g (valueAt r x)) (g (valueAt r y)) h,
+      );
+    }
+
+local-bolt : (g : Bolt → Bolt) → Local (onBolt g)
+local-bolt g =
+    record {
+      elsewhere = λ r x y h. record { value = refl; bolt = getD-set-other (r .bolts) x y _ emptyBolt h };
+      swap = λ r x y h. rw (
+        getD-set-other (r .bolts) x y (g (boltAt r x)) emptyBolt (λ q. h (sym q)),
+        getD-set-other (r .bolts) y x (g (boltAt r y)) emptyBolt h,
+        set-comm (r .bolts) x y (g (boltAt r x)) (g (boltAt r y)) h,
+      );
+    }
+
+same-trans : (r s t : Locks) (x : ℕ) → SameAt r s x → SameAt s t x → SameAt r t x
+same-trans r s t x p q = record { value = p .value ∙ q .value; bolt = p .bolt ∙ q .bolt }
+
+module _ (f : Locks → ℕ → Locks) (local : Local f) where
+  others : (l : List ℕ) (r : Locks) (x : ℕ) → names l x ≡ false → SameAt (forEach f r l) r x
+  unfolding forEach
+  others [] r x n = record { value = refl; bolt = refl }
+  others (y ∷ l) r x n =
+      byEq y x (λ q. contra (names-same y l) (rw (← q) at n))
+      (λ q. same-trans _ (f r y) r x (others l (f r y) x (rw (names-head y x l q) at n)) (local .elsewhere r y x (λ z. q (sym z))))
+
+  named : (l : List ℕ) (r : Locks) → distinct l ≡ true → (x : ℕ) → names l x ≡ true → SameAt (forEach f r l) (f r x) x
+  unfolding forEach distinct names
+  named [] r d x n = contra n refl
+  named (y ∷ l) r d x n =
+      let p = both (not (names l y)) (distinct l) d in
+      byEq y x
+      (λ q. rw (← q) (others l (f r y) y (not-true (names l y) (p .0))))
+      (λ q. same-trans _ (f (f r y) x) (f r x) x (named l (f r y) (p .1) x (rw (ne-eqb y x q) at n))
+      (rw (local .swap r y x q) (local .elsewhere (f r x) y x (λ z. q (sym z)))))
+
+  pub each-of : (r : Locks) (l : List ℕ) → distinct l ≡ true → Each f r l
+  each-of r l d = record { named = named l r d; others = others l r }
+
+pub list-is-each : ListIsEach
+list-is-each =
+    record {
+      takes = λ w. each-of (takeOne w) (take-cases Local local-none local-value local-bolt w);
+      gives = λ w. each-of (giveOne w) (give-cases Local local-none local-value local-bolt w);
+    }

@@ -1,0 +1,71 @@
+-- What a list of numbers names, and a test of each.
+use mathlib.Core.Path.{_≡_, refl}
+use mathlib.Core.Logic.{_≢_}
+use mathlib.Core.Bool.{Bool, true, false, not, _&&_}
+use mathlib.Core.List.{List, [], _∷_}
+use Prim.Native.Nat.{ℕ, _+_, _<_, _≤_}
+use native.Mathlib.Omega.{arith}
+use lib.Dec.{ltb, eqb}
+use borrow.Author.Tests.{ltb-true, lt-ltb, eq-eqb, ne-eqb, not-true}
+use Rattle.record.specs.Lists.{names, distinct}
+use Rattle.lock.specs.Locks.{bit, every}
+use Rattle.lock.proofs.Bools.{byEq, contra, both, and-both}
+
+pub names-head : (x s : ℕ) (l : List ℕ) → x ≢ s → names (x ∷ l) s ≡ names l s
+unfolding names
+names-head x s l h = rw (ne-eqb x s h)
+
+pub names-same : (x : ℕ) (l : List ℕ) → names (x ∷ l) x ≡ true
+unfolding names
+names-same x l = rw (eq-eqb x x refl)
+
+pub distinct-parts : (x : ℕ) (l : List ℕ) → distinct (x ∷ l) ≡ true → (names l x ≡ false) × (distinct l ≡ true)
+unfolding distinct
+distinct-parts x l e = let p = both (not (names l x)) (distinct l) e in (not-true (names l x) (p .0), p .1)
+
+pub every-parts : (f : ℕ → Bool) (x : ℕ) (l : List ℕ) → every f (x ∷ l) ≡ true → (f x ≡ true) × (every f l ≡ true)
+unfolding every
+every-parts f x l e = both (f x) (every f l) e
+
+-- Two tests that differ at most at x agree on a list that does not name x.
+pub every-same : (f g : ℕ → Bool) (l : List ℕ) (x : ℕ) → names l x ≡ false → ((y : ℕ) → y ≢ x → f y ≡ g y) → every f l ≡ every g l
+unfolding every names
+every-same f g [] x n h = refl
+every-same f g (y ∷ l) x n h =
+    byEq y x (λ e. contra (names-same y l) (rw (← e) at n))
+    (λ e. let t : names l x ≡ false = rw (ne-eqb y x e) at n in rw (h y e, every-same f g l x t h))
+
+-- Two tests that agree on the numbers below m agree on a list of such numbers.
+pub every-below : (f g : ℕ → Bool) (m : ℕ) (l : List ℕ) → every (λ x. ltb x m) l ≡ true → ((y : ℕ) → y < m → f y ≡ g y) → every f l ≡ every g l
+unfolding every
+every-below f g m [] e h = refl
+every-below f g m (y ∷ l) e h =
+    let p = both (ltb y m) (every (λ x. ltb x m) l) e in
+    rw (h y (ltb-true y m (p .0)), every-below f g m l (p .1) h)
+
+pub every-more : (m n : ℕ) (l : List ℕ) → m ≤ n → every (λ x. ltb x m) l ≡ true → every (λ x. ltb x n) l ≡ true
+unfolding every
+every-more m n [] h e = refl
+every-more m n (y ∷ l) h e =
+    let p = both (ltb y m) (every (λ x. ltb x m) l) e in
+    let lt = ltb-true y m (p .0) in
+    and-both (lt-ltb y n (omega arith)) (every-more m n l h (p .1))
+
+pub every-at : (f : ℕ → Bool) (l : List ℕ) (y : ℕ) → every f l ≡ true → names l y ≡ true → f y ≡ true
+unfolding every names
+every-at f [] y e n = contra n refl
+every-at f (x ∷ l) y e n =
+    let p = both (f x) (every f l) e in
+    byEq x y (λ q. rw (← q) (p .0)) (λ q. every-at f l y (p .1) (rw (ne-eqb x y q) at n))
+
+-- A number counts once in a list that names it once.
+pub count-split : (b : Bool) (x y : ℕ) (l : List ℕ) → names l x ≡ false → bit (b && eqb x y) + bit (b && names l y) ≡ bit (b && names (x ∷ l) y)
+count-split false x y l h = refl
+count-split true x y l h =
+    byEq x y (λ q. rw (← q, h, names-same x l, eq-eqb x x refl))
+    (λ q. rw (names-head x y l q, ne-eqb x y q) (omega arith))
+
+pub names-none : (b : Bool) (y : ℕ) → bit (b && names [] y) ≡ 0
+unfolding names
+names-none true y = refl
+names-none false y = refl

@@ -1,0 +1,112 @@
+-- Semaphores, writers and readers as one theory of locks, by the kind of wait (document 01, "The step").
+use mathlib.Core.Bool.{Bool, true, false, not, _&&_}
+use mathlib.Core.List.{List, [], _∷_}
+use Prim.Native.Nat.{ℕ, _+_, _-_}
+use lib.ListN.{getD, set}
+use lib.Dec.{ltb, eqb}
+use Rattle.record.specs.Refusals.{mostValue}
+use Rattle.lock.specs.declared.Wait.{Wait}
+use Rattle.lock.specs.declared.Wait.the-variants.{Nothing, Request, Reserve, Enter}
+use Rattle.lock.specs.declared.Bolt.{Bolt}
+use Rattle.lock.specs.declared.Locks.{Locks}
+
+abbrev pub waiting : Wait → Bool
+waiting Nothing = false
+waiting Request = true
+waiting Reserve = true
+waiting Enter = true
+
+-- Two lists count the same: values, writers or readers.
+abbrev pub sameKind : Wait → Wait → Bool
+sameKind Nothing w = false
+sameKind Request Nothing = false
+sameKind Request Request = true
+sameKind Request Reserve = false
+sameKind Request Enter = false
+sameKind Reserve Nothing = false
+sameKind Reserve Request = false
+sameKind Reserve Reserve = true
+sameKind Reserve Enter = false
+sameKind Enter Nothing = false
+sameKind Enter Request = false
+sameKind Enter Reserve = false
+sameKind Enter Enter = true
+
+-- ---- one lock
+
+-- A bolt with no writer and no reader.
+abbrev pub emptyBolt : Bolt
+emptyBolt = record { writer = false; readers = 0 }
+
+abbrev pub valueAt : Locks → ℕ → ℕ
+valueAt r x = getD (r .semaphores) x 0
+
+abbrev pub boltAt : Locks → ℕ → Bolt
+boltAt r x = getD (r .bolts) x emptyBolt
+
+abbrev pub withValue : Locks → ℕ → ℕ → Locks
+withValue r x v = record { semaphores = set (r .semaphores) x v; bolts = r .bolts }
+
+abbrev pub withBolt : Locks → ℕ → Bolt → Locks
+withBolt r x b = record { semaphores = r .semaphores; bolts = set (r .bolts) x b }
+
+abbrev pub bit : Bool → ℕ
+bit true = 1
+bit false = 0
+
+-- What a kind of wait counts: a semaphore's value, a bolt's writer, its readers.
+unfoldable pub level : Wait → Locks → ℕ → ℕ
+level Nothing r x = 0
+level Request r x = valueAt r x
+level Reserve r x = bit (boltAt r x .writer)
+level Enter r x = boltAt r x .readers
+
+-- A number can be taken: REQUEST, RESERVE, ENTER.
+unfoldable pub free : Wait → Locks → ℕ → Bool
+free Nothing r x = false
+free Request r x = ltb 0 (valueAt r x)
+free Reserve r x = not (boltAt r x .writer) && eqb (boltAt r x .readers) 0
+free Enter r x = not (boltAt r x .writer) && ltb (boltAt r x .readers) mostValue
+
+-- One number taken.
+unfoldable pub takeOne : Wait → Locks → ℕ → Locks
+takeOne Nothing r x = r
+takeOne Request r x = withValue r x (valueAt r x - 1)
+takeOne Reserve r x = withBolt r x (record { writer = true; readers = boltAt r x .readers })
+takeOne Enter r x = withBolt r x (record { writer = boltAt r x .writer; readers = boltAt r x .readers + 1 })
+
+-- A number can be given back: RELEASE, FREE, LEAVE (else refusal 13, 14, 14).
+unfoldable pub taken : Wait → Locks → ℕ → Bool
+taken Nothing r x = false
+taken Request r x = ltb (valueAt r x) mostValue
+taken Reserve r x = boltAt r x .writer
+taken Enter r x = ltb 0 (boltAt r x .readers)
+
+-- One number given back.
+unfoldable pub giveOne : Wait → Locks → ℕ → Locks
+giveOne Nothing r x = r
+giveOne Request r x = withValue r x (valueAt r x + 1)
+giveOne Reserve r x = withBolt r x (record { writer = false; readers = boltAt r x .readers })
+giveOne Enter r x = withBolt r x (record { writer = boltAt r x .writer; readers = boltAt r x .readers - 1 })
+
+-- ---- a list of numbers
+
+-- A test of each number of a list.
+unfoldable pub every : (ℕ → Bool) → List ℕ → Bool
+every f [] = true
+every f (x ∷ l) = f x && every f l
+
+-- A change for each number of a list.
+unfoldable pub forEach : (Locks → ℕ → Locks) → Locks → List ℕ → Locks
+forEach f r [] = r
+forEach f r (x ∷ l) = forEach f (f r x) l
+
+-- A list is grantable when all of it is.
+abbrev pub grantable : Wait → Locks → List ℕ → Bool
+grantable w r l = every (free w r) l
+
+abbrev pub takeAll : Wait → Locks → List ℕ → Locks
+takeAll w r l = forEach (takeOne w) r l
+
+abbrev pub giveAll : Wait → Locks → List ℕ → Locks
+giveAll w r l = forEach (giveOne w) r l

@@ -1,0 +1,30 @@
+-- What tests and changes of a list mean for each number. Proved in proofs/Each.antt.
+use mathlib.Core.Path.{_≡_}
+use mathlib.Core.Logic.{_↔_}
+use mathlib.Core.Bool.{Bool, true, false}
+use mathlib.Core.List.{List}
+use Prim.Native.Nat.{ℕ}
+use Rattle.record.specs.Lists.{names, distinct}
+use Rattle.lock.specs.declared.Wait.{Wait}
+use Rattle.lock.specs.declared.Locks.{Locks}
+use Rattle.lock.specs.Locks.{valueAt, boltAt, takeOne, giveOne, every, forEach}
+
+-- A list passes a test exactly when each number that it names does.
+abbrev pub EveryIsEach : Type 0
+EveryIsEach =
+    (f : ℕ → Bool) (l : List ℕ) → (every f l ≡ true) ↔ ((x : ℕ) → names l x ≡ true → f x ≡ true)
+
+-- Two states of the locks have the same at number x.
+pub record SameAt (r s : Locks) (x : ℕ) : Type 0 where
+  pub value : valueAt r x ≡ valueAt s x
+  pub bolt : boltAt r x ≡ boltAt s x
+
+-- A change for each number of a list changes what it names, each as if it stood alone, and nothing else.
+pub record Each (f : Locks → ℕ → Locks) (r : Locks) (l : List ℕ) : Type 0 where
+  pub named : (x : ℕ) → names l x ≡ true → SameAt (forEach f r l) (f r x) x
+  pub others : (x : ℕ) → names l x ≡ false → SameAt (forEach f r l) r x
+
+-- Lists that name no number twice are taken and given back so.
+pub record ListIsEach : Type 0 where
+  pub takes : (w : Wait) (r : Locks) (l : List ℕ) → distinct l ≡ true → Each (takeOne w) r l
+  pub gives : (w : Wait) (r : Locks) (l : List ℕ) → distinct l ≡ true → Each (giveOne w) r l

@@ -1,0 +1,75 @@
+-- A turn begins no wait: who waits after it waited before, on the same list.
+use mathlib.Core.Path.{_≡_, refl}
+use mathlib.Core.Bool.{Bool, true, false}
+use Prim.Native.Nat.{ℕ}
+use Rattle.calendar.specs.declared.Instant.{Instant}
+use Rattle.lock.specs.Locks.{waiting}
+use Rattle.lock.proofs.Bools.{byBool, contra}
+use Rattle.task.specs.declared.Kept.{Kept}
+use Rattle.task.specs.declared.Kept.the-variants.{Empty, Back}
+use Rattle.task.specs.declared.Schedule.{Schedule}
+use Rattle.task.specs.declared.Task.{Task}
+use Rattle.task.specs.State.{withHold, withSchedule}
+use Rattle.task.specs.Schedules.{falls, advance, setOff}
+use Rattle.task.specs.Turns.{dueIf, dueTurn, endIf, endTurn, preventTurn, suspendTurn, continueTurn, resumeTurn, delayEnds, wake, fallTurn, tickTurn, scheduleTurn, listens, triggerTurn}
+
+abbrev pub SameWait : Task → Task → Type 0
+SameWait t u = (u .wait ≡ t .wait) × (u .len ≡ t .len) × (u .list ≡ t .list)
+
+abbrev pub NoNewWait : Task → Task → Type 0
+NoNewWait t u = waiting (u .wait) ≡ true → SameWait t u
+
+stays : (t : Task) → NoNewWait t t
+stays t w = (refl, refl, refl)
+
+due-waits : (b : Bool) (k : Kept) (p : ℕ) (t : Task) → NoNewWait t (dueIf b k p t .task)
+unfolding dueIf
+due-waits false k p t w = contra w refl
+due-waits true Empty p t w = (refl, refl, refl)
+due-waits true (Back q) p t w = stays t w
+
+end-waits : (k : Kept) (t : Task) → NoNewWait t (endIf k t .task)
+unfolding endIf
+end-waits Empty t w = contra w refl
+end-waits (Back p) t w = contra w refl
+
+fall-waits : (n : Instant) (t : Task) → NoNewWait t (fallTurn n t .task)
+unfolding fallTurn
+fall-waits n t =
+    byBool (falls n (t .schedule .alarm)) (λ e. rw e (due-waits (t .alive) (t .kept) _ (withSchedule (advance n (t .schedule)) t)))
+    (λ e. rw e (stays t))
+
+module _ (t : Task) where
+  pub no-wait-end : NoNewWait t (endTurn t .task)
+  no-wait-end = end-waits (t .kept) t
+
+  pub no-wait-prevent : NoNewWait t (preventTurn t .task)
+  unfolding preventTurn
+  no-wait-prevent w = (refl, refl, refl)
+
+  pub no-wait-suspend : NoNewWait t (suspendTurn t .task)
+  unfolding suspendTurn
+  no-wait-suspend w = (refl, refl, refl)
+
+  pub no-wait-continue : (p : ℕ) → NoNewWait t (continueTurn p t .task)
+  unfolding continueTurn
+  no-wait-continue p w = (refl, refl, refl)
+
+  pub no-wait-resume : (n : Instant) → NoNewWait t (resumeTurn n t .task)
+  unfolding resumeTurn
+  no-wait-resume n w = (refl, refl, refl)
+
+  pub no-wait-due : (p : ℕ) → NoNewWait t (dueTurn p t .task)
+  no-wait-due p = due-waits (t .alive) (t .kept) p t
+
+  pub no-wait-schedule : (n : Instant) (s : Schedule) → NoNewWait t (scheduleTurn n s t .task)
+  no-wait-schedule n s = fall-waits n (withSchedule s t)
+
+  pub no-wait-tick : (n : Instant) → NoNewWait t (tickTurn n t .task)
+  unfolding wake
+  no-wait-tick n = byBool (delayEnds n (t .hold)) (λ e. rw e (fall-waits n (withHold _ t))) (λ e. rw e (fall-waits n t))
+
+  pub no-wait-trigger : (day clock : ℕ) (n : Instant) (i : ℕ) → NoNewWait t (triggerTurn day clock n i t .task)
+  unfolding triggerTurn
+  no-wait-trigger day clock n i =
+      byBool (listens i (t .schedule)) (λ e. rw e (no-wait-schedule n (setOff day clock n (t .schedule)))) (λ e. rw e (stays t))

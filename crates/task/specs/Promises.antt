@@ -1,0 +1,61 @@
+-- What one task's turn keeps. Proved in proofs/Turns.antt and proofs/Triggers.antt.
+use mathlib.Core.Path.{_≡_}
+use mathlib.Core.Bool.{Bool, true, false, not, _&&_, _||_}
+use Prim.Native.Nat.{ℕ, _+_}
+use Rattle.calendar.specs.Times.{plus}
+use Rattle.calendar.specs.Dues.{lastAllowed, nextDue}
+use Rattle.calendar.specs.declared.Instant.{Instant}
+use Rattle.calendar.specs.declared.Moment.{Moment}
+use Rattle.calendar.specs.declared.Moment.the-variants.{Never, At}
+use Rattle.lock.specs.Locks.{bit, waiting}
+use Rattle.task.specs.declared.Plan.the-variants.{Armed, Triggered}
+use Rattle.task.specs.declared.Schedule.{Schedule}
+use Rattle.task.specs.declared.Task.{Task}
+use Rattle.task.specs.declared.Turn.{Turn}
+use Rattle.task.specs.State.{noSchedule, unheld, isKept, wanted}
+use Rattle.task.specs.Schedules.{onInterrupt, advance, setOff}
+use Rattle.task.specs.Turns.{dueTurn, endTurn, preventTurn, suspendTurn, continueTurn, resumeTurn, tickTurn, scheduleTurn}
+
+-- A terminated task waits for nothing, is unheld and has no start kept back.
+abbrev pub Rests : Task → Type 0
+Rests t = (t .alive || (not (isKept (t .kept)) && not (waiting (t .wait)) && unheld (t .hold))) ≡ true
+
+-- A turn is fair; p says whether it is that of a PREVENT.
+pub record Fair (p : Bool) (t : Task) (u : Turn) : Type 0 where
+  -- what was kept back and what falls due is made, lost or kept back
+  pub starts : bit (isKept (t .kept)) + bit (u .due) ≡ bit (u .started) + bit (u .lost) + bit (isKept (u .task .kept))
+  -- what was alive and what starts has ended or is alive
+  pub ends : bit (t .alive) + bit (u .started) ≡ bit (u .ended) + bit (u .task .alive)
+  -- lost exactly when due while alive with a start kept back, or kept back and prevented
+  pub lost : u .lost ≡ (isKept (t .kept) && ((u .due && t .alive) || p))
+  -- a wait goes on, with its list, until the task ends
+  pub waits : waiting (u .task .wait) ≡ (waiting (t .wait) && not (u .ended))
+  pub wants : waiting (u .task .wait) ≡ true → (u .task .wait ≡ t .wait) × (wanted (u .task) ≡ wanted t)
+
+-- Every turn is fair.
+pub record TurnsAreFair : Type 0 where
+  pub due : (p : ℕ) (t : Task) → Rests t → Fair false t (dueTurn p t)
+  pub end : (t : Task) → t .alive ≡ true → Fair false t (endTurn t)
+  pub prevent : (t : Task) → Fair true t (preventTurn t)
+  pub suspend : (t : Task) → Fair false t (suspendTurn t)
+  pub continue : (p : ℕ) (t : Task) → Fair false t (continueTurn p t)
+  pub resume : (n : Instant) (t : Task) → Fair false t (resumeTurn n t)
+  pub tick : (n : Instant) (t : Task) → Rests t → Fair false t (tickTurn n t)
+  pub schedule : (n : Instant) (s : Schedule) (t : Task) → Rests t → Fair false t (scheduleTurn n s t)
+
+-- A trigger replaces whatever was to come: first and last are computed anew from n, with no regard to the old ones.
+abbrev pub TriggerReplaces : Type 0
+TriggerReplaces =
+    (day clock : ℕ) (n : Instant) (s : Schedule)
+    → (setOff day clock n s .alarm .plan ≡ Triggered)
+    × (setOff day clock n s .alarm .next ≡ plus n (s .alarm .delay))
+    × (setOff day clock n s .last ≡ lastAllowed day (s .end) clock (plus n (s .alarm .delay)))
+
+-- After a due at n: the next instant of the calendar; else WHEN stays armed, and another schedule is gone.
+pub record AdvanceGoesOn : Type 0 where
+  pub next : (n m : Instant) (s : Schedule) → nextDue (s .period) (s .last) n ≡ At m
+      → (advance n s .alarm .plan ≡ s .alarm .plan) × (advance n s .alarm .next ≡ m) × (advance n s .last ≡ s .last)
+  pub armed : (n : Instant) (s : Schedule) → nextDue (s .period) (s .last) n ≡ Never → onInterrupt (s .alarm .plan) ≡ true
+      → advance n s .alarm .plan ≡ Armed
+  pub gone : (n : Instant) (s : Schedule) → nextDue (s .period) (s .last) n ≡ Never → onInterrupt (s .alarm .plan) ≡ false
+      → advance n s ≡ noSchedule

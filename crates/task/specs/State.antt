@@ -1,0 +1,158 @@
+-- One task as document 01 has it, and the task with one part changed.
+use mathlib.Core.Bool.{Bool, true, false, not, _&&_}
+use mathlib.Core.List.{List, []}
+use Prim.Native.Nat.{ℕ}
+use lib.ListN.{take}
+use Rattle.calendar.specs.Times.{instant, duration}
+use Rattle.calendar.specs.declared.Instant.{Instant}
+use Rattle.calendar.specs.declared.End.the-variants.{Open}
+use Rattle.calendar.specs.declared.Moment.the-variants.{Never}
+use Rattle.lock.specs.declared.Wait.{Wait}
+use Rattle.lock.specs.declared.Wait.the-variants.{Nothing}
+use Rattle.lock.specs.Locks.{waiting}
+use Rattle.task.specs.declared.Hold.{Hold}
+use Rattle.task.specs.declared.Hold.the-variants.{Unheld, Suspended, Delayed}
+use Rattle.task.specs.declared.Kept.{Kept}
+use Rattle.task.specs.declared.Kept.the-variants.{Empty, Back}
+use Rattle.task.specs.declared.Plan.the-variants.{None}
+use Rattle.task.specs.declared.Alarm.{Alarm}
+use Rattle.task.specs.declared.Schedule.{Schedule}
+use Rattle.task.specs.declared.Task.{Task}
+
+-- ---- nothing there
+
+abbrev pub noAlarm : Alarm
+noAlarm = record { plan = None; interrupt = 0; delay = duration 0; next = instant 0 }
+
+abbrev pub noSchedule : Schedule
+noSchedule = record { alarm = noAlarm; last = Never; end = Open; period = 0; priority = 0 }
+
+-- What stands at a place that no table has.
+abbrev pub noTask : Task
+noTask =
+    record {
+      declared = 0;
+      current = 0;
+      alive = false;
+      kept = Empty;
+      wait = Nothing;
+      len = 0;
+      list = [];
+      hold = Unheld;
+      schedule = noSchedule;
+    }
+
+-- ---- what is asked of a task
+
+abbrev pub unheld : Hold → Bool
+unheld Unheld = true
+unheld Suspended = false
+unheld (Delayed n) = false
+
+abbrev pub suspended : Hold → Bool
+suspended Unheld = false
+suspended Suspended = true
+suspended (Delayed n) = false
+
+abbrev pub isKept : Kept → Bool
+isKept Empty = false
+isKept (Back p) = true
+
+-- Alive, unheld and waiting for nothing.
+abbrev pub runnable : Task → Bool
+runnable t = t .alive && unheld (t .hold) && not (waiting (t .wait))
+
+-- The numbers that a waiting task's list names.
+abbrev pub wanted : Task → List ℕ
+wanted t = take (t .len) (t .list)
+
+-- ---- a task with one part changed
+
+abbrev pub withCurrent : ℕ → Task → Task
+withCurrent p t =
+    record {
+      declared = t .declared;
+      current = p;
+      alive = t .alive;
+      kept = t .kept;
+      wait = t .wait;
+      len = t .len;
+      list = t .list;
+      hold = t .hold;
+      schedule = t .schedule;
+    }
+
+abbrev pub withAlive : Bool → Task → Task
+withAlive b t =
+    record {
+      declared = t .declared;
+      current = t .current;
+      alive = b;
+      kept = t .kept;
+      wait = t .wait;
+      len = t .len;
+      list = t .list;
+      hold = t .hold;
+      schedule = t .schedule;
+    }
+
+abbrev pub withKept : Kept → Task → Task
+withKept k t =
+    record {
+      declared = t .declared;
+      current = t .current;
+      alive = t .alive;
+      kept = k;
+      wait = t .wait;
+      len = t .len;
+      list = t .list;
+      hold = t .hold;
+      schedule = t .schedule;
+    }
+
+abbrev pub withHold : Hold → Task → Task
+withHold h t =
+    record {
+      declared = t .declared;
+      current = t .current;
+      alive = t .alive;
+      kept = t .kept;
+      wait = t .wait;
+      len = t .len;
+      list = t .list;
+      hold = h;
+      schedule = t .schedule;
+    }
+
+abbrev pub withSchedule : Schedule → Task → Task
+withSchedule s t =
+    record {
+      declared = t .declared;
+      current = t .current;
+      alive = t .alive;
+      kept = t .kept;
+      wait = t .wait;
+      len = t .len;
+      list = t .list;
+      hold = t .hold;
+      schedule = s;
+    }
+
+-- A wait takes the whole list of the call.
+abbrev pub waitFor : Wait → ℕ → List ℕ → Task → Task
+waitFor w n l t =
+    record {
+      declared = t .declared;
+      current = t .current;
+      alive = t .alive;
+      kept = t .kept;
+      wait = w;
+      len = n;
+      list = l;
+      hold = t .hold;
+      schedule = t .schedule;
+    }
+
+-- Waits for nothing; its list is not looked at any more.
+abbrev pub waitOver : Task → Task
+waitOver t = waitFor Nothing (t .len) (t .list) t

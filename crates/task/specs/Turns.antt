@@ -1,0 +1,113 @@
+-- One task's turn: what a due, an end, a tick or a call does to it, and which sets have it (document 01, "The step").
+use mathlib.Core.Bool.{Bool, true, false, cond, _&&_}
+use Prim.Native.Nat.{ℕ, zero, suc}
+use lib.Dec.{eqb}
+use Rattle.calendar.specs.declared.Instant.{Instant}
+use Rattle.task.specs.declared.Hold.{Hold}
+use Rattle.task.specs.declared.Hold.the-variants.{Unheld, Suspended, Delayed}
+use Rattle.task.specs.declared.Kept.{Kept}
+use Rattle.task.specs.declared.Kept.the-variants.{Empty, Back}
+use Rattle.task.specs.declared.Schedule.{Schedule}
+use Rattle.task.specs.declared.Task.{Task}
+use Rattle.task.specs.declared.Turn.{Turn}
+use Rattle.task.specs.State.{noSchedule, isKept, withCurrent, withAlive, withKept, withHold, withSchedule, waitOver}
+use Rattle.task.specs.Schedules.{onInterrupt, falls, advance, setOff}
+
+-- A turn that marks nothing.
+abbrev pub unmarked : Task → Turn
+unmarked t = record { task = t; due = false; started = false; ended = false; lost = false }
+
+-- Unheld, waiting for nothing, with no start kept back.
+abbrev pub cleared : Task → Task
+cleared t = withHold Unheld (withKept Empty (waitOver t))
+
+-- A task that starts with priority p.
+abbrev pub running : ℕ → Task → Task
+running p t = withAlive true (withCurrent p (cleared t))
+
+-- A task that ends: its current priority is the declared one again, its schedule stays.
+abbrev pub terminated : Task → Task
+terminated t = withAlive false (withCurrent (t .declared) (cleared t))
+
+-- ---- due and end
+
+unfoldable pub dueIf : Bool → Kept → ℕ → Task → Turn
+dueIf false kept p t = record { task = running p t; due = true; started = true; ended = false; lost = false }
+dueIf true Empty p t = record { task = withKept (Back p) t; due = true; started = false; ended = false; lost = false }
+dueIf true (Back q) p t = record { task = t; due = true; started = false; ended = false; lost = true }
+
+-- A start with priority p falls due: it is made, kept back or lost.
+abbrev pub dueTurn : ℕ → Task → Turn
+dueTurn p t = dueIf (t .alive) (t .kept) p t
+
+unfoldable pub endIf : Kept → Task → Turn
+endIf Empty t = record { task = terminated t; due = false; started = false; ended = true; lost = false }
+endIf (Back p) t = record { task = running p t; due = false; started = true; ended = true; lost = false }
+
+-- TERMINATE, and the end of the running task. A start kept back starts.
+abbrev pub endTurn : Task → Turn
+endTurn t = endIf (t .kept) t
+
+-- PREVENT removes the schedule and the start kept back, which is lost.
+unfoldable pub preventTurn : Task → Turn
+preventTurn t =
+    record {
+      task = withSchedule noSchedule (withKept Empty t);
+      due = false;
+      started = false;
+      ended = false;
+      lost = isKept (t .kept);
+    }
+
+-- ---- holds
+
+-- A priority given, or another where it is 0.
+abbrev pub orElse : ℕ → ℕ → ℕ
+orElse zero q = q
+orElse (suc p) q = suc p
+
+-- SUSPEND, a delayed task too.
+unfoldable pub suspendTurn : Task → Turn
+suspendTurn t = unmarked (withHold Suspended t)
+
+-- CONTINUE, with the priority given or the current one.
+unfoldable pub continueTurn : ℕ → Task → Turn
+continueTurn p t = unmarked (withHold Unheld (withCurrent (orElse p (t .current)) t))
+
+-- RESUME delays until n.
+unfoldable pub resumeTurn : Instant → Task → Turn
+resumeTurn n t = unmarked (withHold (Delayed n) t)
+
+abbrev pub delayEnds : Instant → Hold → Bool
+delayEnds n Unheld = false
+delayEnds n Suspended = false
+delayEnds n (Delayed m) = eqb (m .0) (n .0)
+
+-- A task delayed until n is unheld.
+unfoldable pub wake : Instant → Task → Task
+wake n t = cond (delayEnds n (t .hold)) (withHold Unheld t) t
+
+-- ---- schedules
+
+-- What of a task's schedule falls on n is due.
+unfoldable pub fallTurn : Instant → Task → Turn
+fallTurn n t =
+    cond (falls n (t .schedule .alarm)) (dueTurn (t .schedule .priority) (withSchedule (advance n (t .schedule)) t))
+    (unmarked t)
+
+-- A tick to n: the delay first, then the schedule.
+abbrev pub tickTurn : Instant → Task → Turn
+tickTurn n t = fallTurn n (wake n t)
+
+-- A schedule, from now on.
+abbrev pub scheduleTurn : Instant → Schedule → Task → Turn
+scheduleTurn n s t = fallTurn n (withSchedule s t)
+
+-- A WHEN schedule on interrupt i.
+abbrev pub listens : ℕ → Schedule → Bool
+listens i s = onInterrupt (s .alarm .plan) && eqb (s .alarm .interrupt) i
+
+-- TRIGGER of the enabled interrupt i at n.
+unfoldable pub triggerTurn : ℕ → ℕ → Instant → ℕ → Task → Turn
+triggerTurn day clock n i t =
+    cond (listens i (t .schedule)) (scheduleTurn n (setOff day clock n (t .schedule)) t) (unmarked t)

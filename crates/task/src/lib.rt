@@ -1,0 +1,64 @@
+// One task: its priorities, wait, hold, kept-back start and schedule.
+use calendar::Duration;
+use calendar::End;
+use calendar::Instant;
+use calendar::Moment;
+use lock::Wait;
+
+pub enum Hold {
+    Unheld,
+    Suspended,
+    Delayed(Instant),
+}
+
+// A start kept back with its priority, or none.
+pub enum Kept {
+    Empty,
+    Back(u8),
+}
+
+// No schedule; one that waits for its next due; one that waits for its interrupt; one that its interrupt
+// set off and that waits for its next due.
+pub enum Plan {
+    None,
+    Clock,
+    Armed,
+    Triggered,
+}
+
+// What of a schedule waits and fires. The delay runs from a trigger; 0 is none.
+pub struct Alarm {
+    pub plan: Plan,
+    pub interrupt: u8,
+    pub delay: Duration,
+    pub next: Instant,
+}
+
+pub struct Schedule {
+    pub alarm: Alarm,
+    pub last: Moment,
+    pub end: End,
+    pub period: u32,
+    pub priority: u8,
+}
+
+pub struct Task {
+    pub declared: u8,
+    pub current: u8,
+    pub alive: bool,
+    pub kept: Kept,
+    pub wait: Wait,
+    pub len: u8,
+    pub list: [u8; 4],
+    pub hold: Hold,
+    pub schedule: Schedule,
+}
+
+// What happens to one task in a call: the next task, and which sets have it.
+pub struct Turn {
+    pub task: Task,
+    pub due: bool,
+    pub started: bool,
+    pub ended: bool,
+    pub lost: bool,
+}
