@@ -7,7 +7,7 @@ use Prim.Native.Nat.{ℕ, _^_, _<_}
 use native.Mathlib.Omega.{arith}
 use borrow.Author.Tests.{eq-eqb, ne-eqb}
 use Rattle.record.specs.Refusals.{named}
-use Rattle.record.specs.declared.Call.{Call}
+use Rattle.layout.specs.declared.Call.{Call}
 use Rattle.lock.specs.Locks.{waiting, level}
 use Rattle.lock.specs.declared.Wait.{Wait}
 use Rattle.lock.specs.declared.Wait.the-variants.{Nothing}

@@ -9,9 +9,9 @@ use lib.Seq.{getD-set-same, getD-set-other}
 use Rattle.record.specs.Reading.{callWith, opened}
 use Rattle.record.specs.declared.Read.{Read}
 use Rattle.record.specs.declared.Read.the-variants.{Refused, Accepted}
-use Rattle.record.specs.declared.Mark.{Mark}
-use Rattle.record.specs.declared.Mark.the-variants.{DT, DB, IT}
-use Rattle.record.specs.declared.Call.{Call}
+use Rattle.layout.specs.declared.Mark.{Mark}
+use Rattle.layout.specs.declared.Mark.the-variants.{DT, DB, IT}
+use Rattle.layout.specs.declared.Call.{Call}
 use Rattle.lock.specs.Locks.{emptyBolt, boltAt}
 use Rattle.lock.proofs.Bools.{byBool, byEq, contra, both}
 use Rattle.lock.proofs.Levels.{bolt-same, bolt-other}

@@ -9,8 +9,8 @@ use lib.Dec.{eqb}
 use borrow.Author.Tests.{ne-eqb}
 use Rattle.record.specs.Refusals.{named}
 use Rattle.record.specs.Reading.{callWith, opened}
-use Rattle.record.specs.Promises.{Octets}
-use Rattle.record.specs.declared.Head.{Head}
+use Rattle.layout.specs.Fields.{Octets}
+use Rattle.layout.specs.declared.Head.{Head}
 use Rattle.record.specs.declared.Read.{Read}
 use Rattle.record.specs.declared.Read.the-variants.{Refused, Accepted}
 use Rattle.lock.specs.Locks.{bit, waiting, level}

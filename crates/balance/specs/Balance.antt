@@ -5,9 +5,9 @@ use mathlib.Core.Bool.{Bool, true, false, _&&_, _||_}
 use mathlib.Core.List.{List, [], _∷_}
 use Prim.Native.Nat.{ℕ, _+_, _<_, _≤_, _^_}
 use lib.Dec.{eqb}
-use Rattle.record.specs.Marks.{is}
+use Rattle.layout.specs.Marks.{is}
 use Rattle.record.specs.Reading.{opened}
-use Rattle.record.specs.declared.Mark.the-variants.{PR}
+use Rattle.layout.specs.declared.Mark.the-variants.{PR}
 use Rattle.record.specs.declared.Read.{Read}
 use Rattle.record.specs.declared.Read.the-variants.{Refused, Accepted}
 use Rattle.lock.specs.Locks.{bit, waiting, level}

@@ -4,12 +4,12 @@ use mathlib.Core.Bool.{Bool, true, false, not, cond, _&&_, _||_}
 use mathlib.Core.List.{List, [], _∷_}
 use Prim.Native.Nat.{ℕ, _+_, _*_, _<_}
 use lib.Dec.{eqb}
-use Rattle.record.specs.Marks.{is}
+use Rattle.layout.specs.Marks.{is}
 use Rattle.record.specs.Lists.{names}
 use Rattle.record.specs.Refusals.{named}
 use Rattle.record.specs.Reading.{callWith, opened}
-use Rattle.record.specs.declared.Mark.{Mark}
-use Rattle.record.specs.declared.Mark.the-variants.{RQ, RL, TR, RS, FR, ET, LV}
+use Rattle.layout.specs.declared.Mark.{Mark}
+use Rattle.layout.specs.declared.Mark.the-variants.{RQ, RL, TR, RS, FR, ET, LV}
 use Rattle.record.specs.declared.Read.{Read}
 use Rattle.record.specs.declared.Read.the-variants.{Refused, Accepted}
 use Rattle.lock.specs.Locks.{bit, waiting, sameKind}

@@ -4,7 +4,7 @@ use mathlib.Core.Bool.{Bool, true, false, not, _&&_}
 use mathlib.Core.List.{List, [], _∷_}
 use Prim.Native.Nat.{ℕ, _<_}
 use Rattle.record.specs.Reading.{opened}
-use Rattle.record.specs.Promises.{Octets}
+use Rattle.layout.specs.Fields.{Octets}
 use Rattle.record.specs.declared.Read.{Read}
 use Rattle.record.specs.declared.Read.the-variants.{Refused, Accepted}
 use Rattle.lock.specs.Locks.{emptyBolt, boltAt}

@@ -8,18 +8,18 @@ use native.Mathlib.Omega.{arith}
 use lib.Dec.{ltb, eqb}
 use lib.ListN.{length}
 use Rattle.calendar.specs.Limits.{lastInstant}
-use Rattle.record.specs.Marks.{form, markOf}
-use Rattle.record.specs.Fields.{recordLength, letters, headOf}
+use Rattle.layout.specs.Marks.{form, markOf}
+use Rattle.layout.specs.Fields.{recordLength, letters, headOf}
 use Rattle.record.specs.Refusals.{formedAs, formed, listed, named, timed, unless, before, shape, times}
 use Rattle.record.specs.Reading.{withMark, opened}
-use Rattle.record.specs.Promises.{Octets}
-use Rattle.record.specs.declared.Mark.{Mark}
-use Rattle.record.specs.declared.Mark.the-variants.{DT, DS, DB, IT, DC, AC, TE, SU, PR, CO, EN, RE, RQ, RL, TR, RS, FR, ET, LV, TG, EI, XI, TI}
-use Rattle.record.specs.declared.Marked.{Marked}
-use Rattle.record.specs.declared.Marked.the-variants.{Unknown, Known}
+use Rattle.layout.specs.Fields.{Octets}
+use Rattle.layout.specs.declared.Mark.{Mark}
+use Rattle.layout.specs.declared.Mark.the-variants.{DT, DS, DB, IT, DC, AC, TE, SU, PR, CO, EN, RE, RQ, RL, TR, RS, FR, ET, LV, TG, EI, XI, TI}
+use Rattle.layout.specs.declared.Marked.{Marked}
+use Rattle.layout.specs.declared.Marked.the-variants.{Unknown, Known}
 use Rattle.record.specs.declared.Read.the-variants.{Refused, Accepted}
-use Rattle.record.specs.declared.Head.{Head}
-use Rattle.record.specs.declared.Call.{Call}
+use Rattle.layout.specs.declared.Head.{Head}
+use Rattle.layout.specs.declared.Call.{Call}
 use Rattle.lock.specs.Locks.{every, taken}
 use Rattle.lock.specs.declared.Wait.{Wait}
 use Rattle.lock.specs.declared.Wait.the-variants.{Request, Reserve, Enter}

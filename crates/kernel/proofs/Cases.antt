@@ -8,16 +8,16 @@ use native.Mathlib.Omega.{arith}
 use lib.ListN.{length}
 use lib.Dec.{ltb, eqb}
 use Rattle.calendar.specs.Limits.{lastInstant}
-use Rattle.record.specs.Marks.{markOf, form}
-use Rattle.record.specs.Fields.{recordLength, letters, callOf}
+use Rattle.layout.specs.Marks.{markOf, form}
+use Rattle.layout.specs.Fields.{recordLength, letters, callOf}
 use Rattle.record.specs.Refusals.{named, unless, before, formed, listed, timed, shape, times}
 use Rattle.record.specs.Reading.{refused, accepted, withMark, opened}
-use Rattle.record.specs.declared.Marked.{Marked}
-use Rattle.record.specs.declared.Marked.the-variants.{Unknown, Known}
-use Rattle.record.specs.declared.Mark.{Mark}
-use Rattle.record.specs.declared.Mark.the-variants.{DT, DS, DB, IT, DC, AC, TE, SU, PR, CO, EN, RE, RQ, RL, TR, RS, FR, ET, LV, TG, EI, XI, TI}
+use Rattle.layout.specs.declared.Marked.{Marked}
+use Rattle.layout.specs.declared.Marked.the-variants.{Unknown, Known}
+use Rattle.layout.specs.declared.Mark.{Mark}
+use Rattle.layout.specs.declared.Mark.the-variants.{DT, DS, DB, IT, DC, AC, TE, SU, PR, CO, EN, RE, RQ, RL, TR, RS, FR, ET, LV, TG, EI, XI, TI}
 use Rattle.record.specs.declared.Reading.{Reading}
-use Rattle.record.specs.declared.Call.{Call}
+use Rattle.layout.specs.declared.Call.{Call}
 use Rattle.lock.specs.Locks.{every, taken}
 use Rattle.lock.specs.declared.Wait.{Wait}
 use Rattle.lock.specs.declared.Wait.the-variants.{Request, Reserve, Enter}

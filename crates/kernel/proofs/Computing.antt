@@ -3,8 +3,8 @@ use mathlib.Core.List.{List}
 use Prim.Native.Nat.{ℕ}
 use Rattle.calendar.specs.Times.{timeOfDay, until}
 use Rattle.calendar.specs.Dues.{firstDue, lastAllowed, allowed, nextDue}
-use Rattle.record.specs.Marks.{among}
-use Rattle.record.specs.Fields.{headOf, listOf, bytesOf}
+use Rattle.layout.specs.Marks.{among}
+use Rattle.layout.specs.Fields.{headOf, listOf, bytesOf}
 use Rattle.record.specs.Lists.{allZero, names, distinct}
 use Rattle.record.specs.Refusals.{uses, cleanNames, cleanStart, ranged, formed, listed, endTimed, firstTimed, startTimed, timed, shape, times}
 use Rattle.record.specs.Reading.{opened}

@@ -10,10 +10,10 @@ use lib.Seq.{getD-set-same, getD-set-other}
 use borrow.Author.Tests.{ltb-true, lt-ltb, leb-true, le-leb}
 use Rattle.calendar.specs.Limits.{longestDuration}
 use Rattle.record.specs.Refusals.{mostValue, uses, cleanNames, cleanStart, ranged, formedAs, timed}
-use Rattle.record.specs.declared.Form.{Form}
-use Rattle.record.specs.declared.Form.the-variants.{DeclaredPriority, Preset}
-use Rattle.record.specs.declared.Mark.the-variants.{DT, DS, DB, IT, DC}
-use Rattle.record.specs.declared.Call.{Call}
+use Rattle.layout.specs.declared.Form.{Form}
+use Rattle.layout.specs.declared.Form.the-variants.{DeclaredPriority, Preset}
+use Rattle.layout.specs.declared.Mark.the-variants.{DT, DS, DB, IT, DC}
+use Rattle.layout.specs.declared.Call.{Call}
 use Rattle.lock.specs.Locks.{emptyBolt, waiting, valueAt, boltAt, withValue, withBolt, level, free}
 use Rattle.lock.specs.declared.Wait.{Wait}
 use Rattle.lock.specs.declared.Wait.the-variants.{Nothing, Request, Reserve, Enter}

@@ -10,13 +10,13 @@ use borrow.Author.Tests.{ltb-true, leb-true, eqb-true, not-true}
 use Rattle.calendar.specs.Limits.{longestDuration, lastInstant, isDuration}
 use Rattle.calendar.specs.Times.{duration, plus}
 use Rattle.calendar.specs.declared.Instant.{Instant}
-use Rattle.record.specs.Marks.{is}
+use Rattle.layout.specs.Marks.{is}
 use Rattle.record.specs.Lists.{names, distinct}
 use Rattle.record.specs.Refusals.{mostNumbers, uses, cleanNames, cleanStart, ranged, startFormed, formedAs, named, listed, timed}
-use Rattle.record.specs.declared.Mark.{Mark}
-use Rattle.record.specs.declared.Mark.the-variants.{DT, DS, DB, IT, DC, AC, TE, SU, PR, CO, EN, RE, RQ, RL, TR, RS, FR, ET, LV, TG, EI, XI, TI}
-use Rattle.record.specs.declared.Form.the-variants.{Activation, Numbers, OneNumber}
-use Rattle.record.specs.declared.Call.{Call}
+use Rattle.layout.specs.declared.Mark.{Mark}
+use Rattle.layout.specs.declared.Mark.the-variants.{DT, DS, DB, IT, DC, AC, TE, SU, PR, CO, EN, RE, RQ, RL, TR, RS, FR, ET, LV, TG, EI, XI, TI}
+use Rattle.layout.specs.declared.Form.the-variants.{Activation, Numbers, OneNumber}
+use Rattle.layout.specs.declared.Call.{Call}
 use Rattle.lock.specs.Locks.{waiting, every, taken, grantable, takeAll, giveAll}
 use Rattle.lock.specs.declared.Wait.{Wait}
 use Rattle.lock.specs.declared.Wait.the-variants.{Nothing, Request, Reserve, Enter}

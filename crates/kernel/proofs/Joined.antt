@@ -3,15 +3,15 @@ use mathlib.Core.Path.{_≡_, refl}
 use mathlib.Core.List.{List}
 use Prim.Native.Nat.{ℕ, zero, suc}
 use native.Mathlib.Omega.{arith}
-use Rattle.record.specs.Fields.{bytesOf}
+use Rattle.layout.specs.Fields.{bytesOf}
 use Rattle.record.specs.Refusals.{refusal}
 use Rattle.record.specs.Reading.{accepted, opened}
 use Rattle.record.specs.Writing.{orZeros}
-use Rattle.record.specs.declared.Call.{Call}
+use Rattle.layout.specs.declared.Call.{Call}
 use Rattle.kernel.specs.declared.Kernel.{Kernel}
 use Rattle.kernel.specs.Step.{carry, step}
 use Rattle.kernel.specs.Promises.{StepIsCarry, StepOfWritten}
-use Rattle.record.proofs.FieldsLaws.{bytes-opened}
+use Rattle.record.proofs.OpenedLaws.{bytes-opened}
 
 pub joined-from : (day : ℕ) (k : Kernel) (s : List ℕ) (c : Call) → opened s ≡ accepted c → step day k s ≡ carry day k c
 unfolding step carry

@@ -5,12 +5,12 @@ use mathlib.Core.Bool.{Bool, true, false, not, _&&_}
 use mathlib.Core.List.{List}
 use Prim.Native.Nat.{ℕ, zero, suc}
 use native.Mathlib.Omega.{arith}
-use Rattle.record.specs.Marks.{form}
+use Rattle.layout.specs.Marks.{form}
 use Rattle.record.specs.Refusals.{unless, before, formed, listed, timed, shape, times, refusal}
 use Rattle.record.specs.Reading.{accepted, opened, orRefused, judged, reading}
-use Rattle.record.specs.declared.Mark.{Mark}
-use Rattle.record.specs.declared.Mark.the-variants.{DT, DS, DB, IT, DC, AC, TE, SU, PR, CO, EN, RE, RQ, RL, TR, RS, FR, ET, LV, TG, EI, XI, TI}
-use Rattle.record.specs.declared.Call.{Call}
+use Rattle.layout.specs.declared.Mark.{Mark}
+use Rattle.layout.specs.declared.Mark.the-variants.{DT, DS, DB, IT, DC, AC, TE, SU, PR, CO, EN, RE, RQ, RL, TR, RS, FR, ET, LV, TG, EI, XI, TI}
+use Rattle.layout.specs.declared.Call.{Call}
 use Rattle.record.specs.declared.Read.the-variants.{Refused, Accepted}
 use Rattle.lock.proofs.Bools.{contra}
 use Rattle.kernel.specs.declared.Counts.{Counts}

@@ -9,8 +9,8 @@ use borrow.Author.Tests.{leb-true, ltb-true, not-true}
 use Rattle.calendar.specs.Limits.{lastInstant, isTimeOfDay}
 use Rattle.record.specs.Refusals.{mostValue, mostNumbers, unless, before, shape, times}
 use Rattle.record.specs.Lists.{distinct}
-use Rattle.record.specs.declared.Mark.the-variants.{DT, DS, DB, IT}
-use Rattle.record.specs.declared.Call.{Call}
+use Rattle.layout.specs.declared.Mark.the-variants.{DT, DS, DB, IT}
+use Rattle.layout.specs.declared.Call.{Call}
 use Rattle.lock.specs.Locks.{waiting, every, valueAt, boltAt}
 use Rattle.kernel.proofs.Below.{all-at}
 use Rattle.lock.proofs.Bools.{byEq, both}

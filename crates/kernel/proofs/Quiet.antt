@@ -11,12 +11,12 @@ use borrow.Author.Tests.{leb-true, le-leb, lt-ltb, not-true}
 use Rattle.calendar.specs.Limits.{lastInstant, isTimeOfDay}
 use Rattle.calendar.specs.Times.{duration, plus}
 use Rattle.calendar.specs.declared.Instant.{Instant}
-use Rattle.record.specs.Marks.{among}
-use Rattle.record.specs.Fields.{callOf, headOf, listOf, bytesOf}
+use Rattle.layout.specs.Marks.{among}
+use Rattle.layout.specs.Fields.{callOf, headOf, listOf, bytesOf}
 use Rattle.record.specs.Lists.{allZero}
 use Rattle.record.specs.Refusals.{mostValue, uses, cleanNames, cleanStart, ranged, formed, listed, timed, shape, times}
 use Rattle.record.specs.Reading.{opened}
-use Rattle.record.specs.declared.Mark.the-variants.{TI}
+use Rattle.layout.specs.declared.Mark.the-variants.{TI}
 use Rattle.lock.specs.Locks.{valueAt, boltAt}
 use Rattle.task.specs.Schedules.{falls}
 use Rattle.task.specs.Turns.{unmarked, delayEnds, wake, fallTurn, tickTurn}

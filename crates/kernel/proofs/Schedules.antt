@@ -16,8 +16,8 @@ use Rattle.calendar.specs.declared.Moment.{Moment}
 use Rattle.calendar.specs.declared.Moment.the-variants.{Never, At as Then}
 use Rattle.calendar.proofs.Bounds.{ShortStart, ShortEnd, Within, first-within, last-within, next-within, within-more}
 use Rattle.record.specs.Refusals.{Used, onInterrupt as whenKind, atTime, afterDuration, start, orZero, cleanStart, ranged, endTimed, firstTimed, startTimed, startFormed}
-use Rattle.record.specs.declared.Head.{Head}
-use Rattle.record.specs.declared.Form.the-variants.{Activation}
+use Rattle.layout.specs.declared.Head.{Head}
+use Rattle.layout.specs.declared.Form.the-variants.{Activation}
 use Rattle.lock.proofs.Bools.{byBool, byEq, contra, both, and-both, or-then}
 use Rattle.task.specs.Schedules.{pending, onInterrupt, withAlarm, advanced, advance, launch, setOff}
 use Rattle.task.specs.declared.Plan.{Plan}

@@ -8,7 +8,7 @@ use borrow.Author.Tests.{le-leb}
 use Rattle.calendar.specs.Limits.{lastInstant, mostInstant}
 use Rattle.calendar.specs.declared.Instant.{Instant}
 use Rattle.record.specs.Refusals.{onInterrupt as whenKind, startFormed, startTimed}
-use Rattle.record.specs.declared.Head.{Head}
+use Rattle.layout.specs.declared.Head.{Head}
 use Rattle.lock.specs.Locks.{waiting}
 use Rattle.lock.proofs.Bools.{byBool, contra, both, and-both}
 use Rattle.task.specs.State.{unheld, isKept, noSchedule, withKept, withHold, withCurrent, withSchedule}

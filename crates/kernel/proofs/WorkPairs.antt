@@ -10,8 +10,8 @@ use lib.Seq.{length-take-le, getD-take}
 use lib.Dec.{eqb}
 use Rattle.calendar.specs.declared.Instant.{Instant}
 use Rattle.record.specs.Refusals.{named}
-use Rattle.record.specs.declared.Head.{Head}
-use Rattle.record.specs.declared.Call.{Call}
+use Rattle.layout.specs.declared.Head.{Head}
+use Rattle.layout.specs.declared.Call.{Call}
 use Rattle.lock.specs.declared.Wait.{Wait}
 use Rattle.lock.specs.declared.Locks.{Locks}
 use Rattle.lock.proofs.Bools.{byBool}

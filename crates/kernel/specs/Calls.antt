@@ -12,8 +12,8 @@ use Rattle.calendar.specs.declared.End.{End}
 use Rattle.calendar.specs.declared.End.the-variants.{Open, Until, During}
 use Rattle.calendar.specs.declared.Moment.the-variants.{Never}
 use Rattle.record.specs.Refusals.{atTime, afterDuration, onInterrupt, named}
-use Rattle.record.specs.declared.Head.{Head}
-use Rattle.record.specs.declared.Call.{Call}
+use Rattle.layout.specs.declared.Head.{Head}
+use Rattle.layout.specs.declared.Call.{Call}
 use Rattle.lock.specs.Locks.{emptyBolt, withValue, withBolt, takeAll, giveAll}
 use Rattle.lock.specs.declared.Wait.{Wait}
 use Rattle.task.specs.State.{waitFor}

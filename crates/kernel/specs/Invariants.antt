@@ -5,8 +5,8 @@ use mathlib.Core.List.{List}
 use Prim.Native.Nat.{ℕ, _<_, _≤_}
 use lib.ListN.{length}
 use Rattle.calendar.specs.Limits.{longestDuration}
-use Rattle.record.specs.Promises.{Octets}
-use Rattle.record.specs.declared.Call.{Call}
+use Rattle.layout.specs.Fields.{Octets}
+use Rattle.layout.specs.declared.Call.{Call}
 use Rattle.kernel.specs.declared.Kernel.{Kernel}
 use Rattle.kernel.specs.State.{mostTasks, mostSemaphores, mostBolts, mostInterrupts}
 use Rattle.kernel.specs.Granting.{servable}

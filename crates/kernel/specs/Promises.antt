@@ -5,11 +5,11 @@ use mathlib.Core.Bool.{Bool, true, false, not, _&&_}
 use mathlib.Core.List.{List}
 use Prim.Native.Nat.{ℕ, _≤_, _<_}
 use lib.ListN.{length}
-use Rattle.record.specs.Fields.{bytesOf}
+use Rattle.layout.specs.Fields.{bytesOf}
 use Rattle.record.specs.Refusals.{mostNumbers, unless, before, shape}
 use Rattle.record.specs.Reading.{accepted, callWith, opened, reading}
 use Rattle.record.specs.Writing.{written}
-use Rattle.record.specs.declared.Call.{Call}
+use Rattle.layout.specs.declared.Call.{Call}
 use Rattle.record.specs.declared.Read.{Read}
 use Rattle.record.specs.declared.Read.the-variants.{Refused, Accepted}
 use Rattle.task.specs.State.{runnable}

@@ -2,9 +2,9 @@
 use mathlib.Core.List.{List, [], _∷_}
 use Prim.Native.Nat.{ℕ, _*_}
 use lib.ListN.{length, replicate}
-use Rattle.record.specs.Fields.{bytesOf}
-use Rattle.record.specs.declared.Mark.{Mark}
-use Rattle.record.specs.declared.Mark.the-variants.{DT, DS, IT, DC, AC, TE, RE, RQ, RL, TR, TG, EI, TI}
+use Rattle.layout.specs.Fields.{bytesOf}
+use Rattle.layout.specs.declared.Mark.{Mark}
+use Rattle.layout.specs.declared.Mark.the-variants.{DT, DS, IT, DC, AC, TE, RE, RQ, RL, TR, TG, EI, TI}
 
 -- n times the same. It is shut, so that a row of a million records is never written out.
 unfoldable pub row {ℓ} : {A : Type ℓ} → ℕ → A → List A

@@ -6,9 +6,9 @@ use Rattle.record.specs.Reading.{callWith, opened}
 use Rattle.record.specs.declared.Read.{Read}
 use Rattle.record.specs.declared.Read.the-variants.{Refused, Accepted}
 use Rattle.record.specs.declared.Reading.{Reading}
-use Rattle.record.specs.declared.Call.{Call}
-use Rattle.record.specs.declared.Mark.{Mark}
-use Rattle.record.specs.declared.Mark.the-variants.{DT, DS, DB, IT, DC, AC, TE, SU, PR, CO, EN, RE, RQ, RL, TR, RS, FR, ET, LV, TG, EI, XI, TI}
+use Rattle.layout.specs.declared.Call.{Call}
+use Rattle.layout.specs.declared.Mark.{Mark}
+use Rattle.layout.specs.declared.Mark.the-variants.{DT, DS, DB, IT, DC, AC, TE, SU, PR, CO, EN, RE, RQ, RL, TR, RS, FR, ET, LV, TG, EI, XI, TI}
 use Rattle.calendar.specs.Times.{duration, plus}
 use Rattle.lock.specs.declared.Wait.the-variants.{Request, Reserve, Enter}
 use Rattle.task.specs.Turns.{endTurn, preventTurn, suspendTurn, continueTurn, resumeTurn}

@@ -5,7 +5,7 @@ use mathlib.Core.Bool.{Bool, true, false}
 use Prim.Native.Nat.{ℕ, _≤_, _<_, _^_}
 use lib.ListN.{set}
 use Rattle.record.specs.Refusals.{named}
-use Rattle.record.specs.declared.Call.{Call}
+use Rattle.layout.specs.declared.Call.{Call}
 use Rattle.lock.specs.Locks.{grantable, takeAll}
 use Rattle.lock.specs.declared.Wait.{Wait}
 use Rattle.task.specs.State.{wanted, waitFor, waitOver}

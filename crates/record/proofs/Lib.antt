@@ -1,6 +1,5 @@
--- Laws that several proofs cite.
-pub mod MarksLaws
-pub mod FieldsLaws
+-- Laws that several proofs cite, and the theorems.
+pub mod OpenedLaws
 pub mod ListsLaws
 pub mod ShapeLaws
 pub mod TimesLaws

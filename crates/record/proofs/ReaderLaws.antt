@@ -2,14 +2,14 @@
 use mathlib.Core.Path.{_≡_, refl, sym, _∙_, ap}
 use mathlib.Core.List.{List}
 use Prim.Native.Nat.{ℕ, zero, suc}
-use Rattle.record.specs.declared.Head.{Head}
-use Rattle.record.specs.declared.Call.{Call}
+use Rattle.layout.specs.declared.Head.{Head}
+use Rattle.layout.specs.declared.Call.{Call}
 use Rattle.record.specs.declared.Read.{Read}
 use Rattle.record.specs.declared.Read.the-variants.{Refused, Accepted}
 use Rattle.record.specs.declared.Reading.{Reading}
 use Rattle.record.specs.Refusals.{before, shape, times, refusal}
 use Rattle.record.specs.Reading.{callWith, refused, orRefused, judged, opened, reading}
-use Rattle.record.proofs.FieldsLaws.{taken}
+use Rattle.record.proofs.OpenedLaws.{taken}
 use Rattle.record.proofs.ShapeLaws.{FieldsOf}
 
 before-some : (n r : ℕ) → (n ≡ 0 → ⊥) → n ≡ before n r

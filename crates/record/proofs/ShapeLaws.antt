@@ -11,17 +11,17 @@ use lib.ListN.{length, take, drop, getD}
 use lib.Seq.{drop-cons}
 use types.Run.{OneOf, miss}
 use denote.Enum.Declared.{tagOf}
-use Rattle.record.specs.declared.Mark.{Mark}
-use Rattle.record.specs.declared.Head.{Head}
-use Rattle.record.specs.declared.Call.{Call}
-use Rattle.record.specs.declared.Form.{Form}
-use Rattle.record.specs.declared.Form.the-variants.{Bare, Number, NumberPriority, DeclaredPriority, Preset, TimeOfDay, Delay, Activation, Numbers, OneNumber}
-use Rattle.record.specs.Marks.{form}
-use Rattle.record.specs.Fields.{recordLength, byte, word, headOf, listOf, callOf}
+use Rattle.layout.specs.declared.Mark.{Mark}
+use Rattle.layout.specs.declared.Head.{Head}
+use Rattle.layout.specs.declared.Call.{Call}
+use Rattle.layout.specs.declared.Form.{Form}
+use Rattle.layout.specs.declared.Form.the-variants.{Bare, Number, NumberPriority, DeclaredPriority, Preset, TimeOfDay, Delay, Activation, Numbers, OneNumber}
+use Rattle.layout.specs.Marks.{form}
+use Rattle.layout.specs.Fields.{recordLength, byte, word, headOf, listOf, callOf}
 use Rattle.record.specs.Lists.{allZero, stretch}
 use Rattle.record.specs.Reading.{callWith}
 use Rattle.record.specs.Refusals.{mostNumbers, Used, plain, start, startFormed, orZero, cleanNames, cleanStart, ranged, uses, formedAs, formed, listed}
-use Rattle.record.proofs.Form as FormT
+use Rattle.layout.proofs.Form as FormT
 
 -- Two tests are one if each gives the other.
 same-test : (a b : Bool) → (a ≡ true → b ≡ true) → (b ≡ true → a ≡ true) → a ≡ b

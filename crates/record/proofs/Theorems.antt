@@ -7,17 +7,18 @@ use Prim.Native.Nat.{ℕ, zero, suc}
 use native.Mathlib.Omega.{arith}
 use lib.ListN.{replicate}
 use borrow.Author.Tests.{eqb-false}
-use Rattle.record.specs.declared.Mark.{Mark}
-use Rattle.record.specs.declared.Call.{Call}
-use Rattle.record.specs.Marks.{form}
-use Rattle.record.specs.Fields.{recordLength, headOf, callOf, bytesOf}
+use Rattle.layout.specs.declared.Mark.{Mark}
+use Rattle.layout.specs.declared.Call.{Call}
+use Rattle.layout.specs.Marks.{form}
+use Rattle.layout.specs.Fields.{recordLength, headOf, callOf, bytesOf}
 use Rattle.record.specs.Lists.{names}
 use Rattle.record.specs.Refusals.{formed, listed, timed, unless, before, shape, times, refusal}
 use Rattle.record.specs.Reading.{numberOf, refused, accepted, callWith, opened, orRefused, judged, reading}
 use Rattle.record.specs.Writing.{orZeros, written}
 use Rattle.record.specs.Promises.{WrittenReadsBack, ReadWritesBack, WriterRefusesAsReader, RefusedWritesZeros, NoRecord, TwoIsNoRecord, RecordIsJudged, ReaderNumbers}
-use Rattle.record.proofs.FieldsLaws.{fields-bytes, bytes-opened, Opening, unsized, unmarked, marked, opens, opened-known}
-use Rattle.record.proofs.MarksLaws.{known}
+use Rattle.layout.proofs.FieldsLaws.{fields-bytes}
+use Rattle.layout.proofs.MarksLaws.{known}
+use Rattle.record.proofs.OpenedLaws.{bytes-opened, Opening, unsized, unmarked, marked, opens, opened-known}
 
 -- ---- what is read, once bytes are opened
 

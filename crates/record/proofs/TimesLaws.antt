@@ -5,11 +5,11 @@ use mathlib.Core.List.{List, [], _∷_}
 use Prim.Native.Nat.{ℕ}
 use types.Run.{OneOf, miss}
 use denote.Enum.Declared.{tagOf}
-use Rattle.record.specs.declared.Head.{Head}
-use Rattle.record.specs.declared.Form.{Form}
-use Rattle.record.specs.declared.Form.the-variants.{Bare, Number, NumberPriority, DeclaredPriority, Preset, TimeOfDay, Delay, Activation, Numbers, OneNumber}
+use Rattle.layout.specs.declared.Head.{Head}
+use Rattle.layout.specs.declared.Form.{Form}
+use Rattle.layout.specs.declared.Form.the-variants.{Bare, Number, NumberPriority, DeclaredPriority, Preset, TimeOfDay, Delay, Activation, Numbers, OneNumber}
 use Rattle.record.specs.Refusals.{timed}
-use Rattle.record.proofs.Form as FormT
+use Rattle.layout.proofs.Form as FormT
 
 -- By their places in the code's enum.
 abbrev timeless : List ℕ

@@ -1,6 +1,4 @@
 -- The record form's rules, in the order to read them.
-pub mod Marks
-pub mod Fields
 pub mod Lists
 pub mod Refusals
 pub mod Reading

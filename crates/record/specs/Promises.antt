@@ -5,24 +5,16 @@ use mathlib.Core.List.{List, [], _∷_}
 use mathlib.Core.Logic.{_⊎_, _↔_}
 use Prim.Native.Nat.{ℕ, suc, _<_}
 use lib.ListN.{length, replicate}
-use Rattle.record.specs.declared.Mark.{Mark}
-use Rattle.record.specs.declared.Head.{Head}
-use Rattle.record.specs.declared.Call.{Call}
+use Rattle.layout.specs.declared.Mark.{Mark}
+use Rattle.layout.specs.declared.Head.{Head}
+use Rattle.layout.specs.declared.Call.{Call}
 use Rattle.record.specs.declared.Read.the-variants.{Accepted}
-use Rattle.record.specs.Marks.{code}
-use Rattle.record.specs.Fields.{recordLength, byte, letters, callOf, bytesOf}
+use Rattle.layout.specs.Marks.{code}
+use Rattle.layout.specs.Fields.{recordLength, letters, callOf, bytesOf, FourPlaces, Octets}
 use Rattle.record.specs.Lists.{names}
 use Rattle.record.specs.Refusals.{refusal}
 use Rattle.record.specs.Reading.{numberOf, accepted, callWith, reading}
 use Rattle.record.specs.Writing.{written}
-
--- A list has four places, as in every call of the code.
-abbrev pub FourPlaces : Call → Type 0
-FourPlaces c = length (c .list) ≡ 4
-
--- Each element is a byte.
-abbrev pub Octets : List ℕ → Type 0
-Octets s = (i : ℕ) → byte s i < 256
 
 -- What the writer takes reads back as itself.
 abbrev pub WrittenReadsBack : Type 0

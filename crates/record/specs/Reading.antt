@@ -4,15 +4,15 @@ use mathlib.Core.List.{List, [], _∷_}
 use Prim.Native.Nat.{ℕ, zero, suc}
 use lib.ListN.{length}
 use lib.Dec.{eqb}
-use Rattle.record.specs.declared.Head.{Head}
-use Rattle.record.specs.declared.Call.{Call}
-use Rattle.record.specs.declared.Marked.{Marked}
-use Rattle.record.specs.declared.Marked.the-variants.{Unknown, Known}
+use Rattle.layout.specs.declared.Head.{Head}
+use Rattle.layout.specs.declared.Call.{Call}
+use Rattle.layout.specs.declared.Marked.{Marked}
+use Rattle.layout.specs.declared.Marked.the-variants.{Unknown, Known}
 use Rattle.record.specs.declared.Read.{Read}
 use Rattle.record.specs.declared.Read.the-variants.{Refused, Accepted}
 use Rattle.record.specs.declared.Reading.{Reading}
-use Rattle.record.specs.Marks.{markOf}
-use Rattle.record.specs.Fields.{recordLength, letters, callOf}
+use Rattle.layout.specs.Marks.{markOf}
+use Rattle.layout.specs.Fields.{recordLength, letters, callOf}
 use Rattle.record.specs.Refusals.{refusal}
 
 -- The number of a reader's answer: 0, or the refusal's.

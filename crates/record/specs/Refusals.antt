@@ -6,11 +6,11 @@ use Prim.Native.Nat.{ℕ, zero, suc}
 use lib.ListN.{take, drop}
 use lib.Dec.{leb, ltb, eqb}
 use Rattle.calendar.specs.Limits.{isTimeOfDay, isDuration, isPeriod}
-use Rattle.record.specs.declared.Head.{Head}
-use Rattle.record.specs.declared.Call.{Call}
-use Rattle.record.specs.declared.Form.{Form}
-use Rattle.record.specs.declared.Form.the-variants.{Bare, Number, NumberPriority, DeclaredPriority, Preset, TimeOfDay, Delay, Activation, Numbers, OneNumber}
-use Rattle.record.specs.Marks.{form}
+use Rattle.layout.specs.declared.Head.{Head}
+use Rattle.layout.specs.declared.Call.{Call}
+use Rattle.layout.specs.declared.Form.{Form}
+use Rattle.layout.specs.declared.Form.the-variants.{Bare, Number, NumberPriority, DeclaredPriority, Preset, TimeOfDay, Delay, Activation, Numbers, OneNumber}
+use Rattle.layout.specs.Marks.{form}
 use Rattle.record.specs.Lists.{allZero, distinct}
 
 -- The largest value of a semaphore, and so of a preset.

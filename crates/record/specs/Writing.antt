@@ -1,9 +1,9 @@
 -- What the writer hands back for any call or declaration.
 use Prim.Native.Nat.{ℕ, zero, suc}
 use lib.ListN.{replicate}
-use Rattle.record.specs.declared.Call.{Call}
+use Rattle.layout.specs.declared.Call.{Call}
 use Rattle.record.specs.declared.Written.{Written}
-use Rattle.record.specs.Fields.{recordLength, bytesOf}
+use Rattle.layout.specs.Fields.{recordLength, bytesOf}
 use Rattle.record.specs.Refusals.{refusal}
 
 -- The record, or the refusal's number with zero bytes.

@@ -3,7 +3,7 @@ ghost use mathlib.Core.Path.{_≡_};
 ghost use Prim.Native.Nat.{_≤_};
 ghost use lib.ListN.{take};
 ghost use Rattle.record.specs.Lists.{allZero, names, distinct};
-use crate::Numbers;
+use layout::Numbers;
 
 // Whether each number is 0.
 pub fn zeros(s: &[u8]) -> bool

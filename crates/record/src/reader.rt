@@ -2,21 +2,21 @@
 ghost use mathlib.Core.Path.{_≡_};
 ghost use lib.ListN.{length};
 ghost use Rattle.calendar.specs.Limits.{day};
-ghost use Rattle.record.specs.Fields.{recordLength, headOf, listOf};
+ghost use Rattle.layout.specs.Fields.{recordLength, headOf, listOf};
 ghost use Rattle.record.specs.Refusals.{refusal};
 ghost use Rattle.record.specs.Reading.{callWith, refused, opened, reading};
-use crate::Head;
-use crate::Marked;
-use crate::Numbers;
-use crate::RECORD_LENGTH;
 use crate::Read;
 use crate::Reading;
-use crate::fields::head_at;
-use crate::fields::letters_at;
-use crate::fields::list_at;
-use crate::marks::mark_of;
 use crate::shape::shape_at;
 use crate::times::times_of;
+use layout::Head;
+use layout::Marked;
+use layout::Numbers;
+use layout::RECORD_LENGTH;
+use layout::fields::head_at;
+use layout::fields::letters_at;
+use layout::fields::list_at;
+use layout::marks::mark_of;
 
 pub(crate) fn refuse(n: u8) -> Reading
     ensures { λ r. ⌜ r ≡ refused n ⌝ }

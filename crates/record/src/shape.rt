@@ -5,24 +5,24 @@ ghost use mathlib.Core.Bool.{_&&_};
 ghost use Prim.Native.Nat.{_≤_};
 ghost use lib.Dec.{leb};
 ghost use lib.ListN.{length, drop};
-ghost use Rattle.record.specs.Fields.{recordLength, headOf, listOf};
+ghost use Rattle.layout.specs.Fields.{recordLength, headOf, listOf};
 ghost use Rattle.record.specs.Lists.{allZero, stretch};
 ghost use Rattle.record.specs.Refusals.{mostNumbers, orZero, startFormed, formed, listed, shape};
-ghost use Rattle.record.specs.Marks.{form};
+ghost use Rattle.layout.specs.Marks.{form};
 ghost use Rattle.record.specs.Reading.{callWith};
-use crate::Form;
-use crate::Head;
 use crate::LAST_END_KIND;
 use crate::LAST_KIND;
 use crate::MOST_NUMBERS;
 use crate::MOST_VALUE;
-use crate::Numbers;
-use crate::RECORD_LENGTH;
 use crate::kinds::has_first;
 use crate::kinds::is_on_interrupt;
 use crate::lists::is_distinct;
 use crate::lists::zeros;
-use crate::marks::form_of;
+use layout::Form;
+use layout::Head;
+use layout::Numbers;
+use layout::RECORD_LENGTH;
+use layout::marks::form_of;
 
 // Whether the bytes behind the mark are zero, but for those from a up to b.
 fn zero_around(s: &[u8], a: usize, b: usize) -> bool

@@ -1,16 +1,16 @@
 // Refusal 6: times of day, durations and periods.
 ghost use mathlib.Core.Path.{_≡_};
 ghost use Rattle.calendar.specs.Limits.{day};
-ghost use Rattle.record.specs.Marks.{form};
+ghost use Rattle.layout.specs.Marks.{form};
 ghost use Rattle.record.specs.Refusals.{endTimed, firstTimed, givenIf, startTimed, timed, times};
-use crate::Form;
-use crate::Head;
 use crate::kinds::is_after_duration;
 use crate::kinds::needs_period;
-use crate::marks::form_of;
 use calendar::is_duration;
 use calendar::is_period;
 use calendar::is_time_of_day;
+use layout::Form;
+use layout::Head;
+use layout::marks::form_of;
 
 // Whether an end's time is in range: UNTIL a time of day, DURING a duration.
 fn is_end_timed(endkind: u8, t: u32) -> bool

@@ -2,10 +2,10 @@
 ghost use mathlib.Core.Path.{_≡_};
 ghost use Rattle.calendar.specs.Limits.{day};
 ghost use Rattle.record.specs.Writing.{written};
-use crate::Call;
 use crate::Written;
-use crate::fields::bytes_of;
 use crate::reader::refusal_at;
+use layout::Call;
+use layout::fields::bytes_of;
 
 // The record of a call or declaration, or the refusal that the reader would give and zero bytes.
 pub fn write(c: Call) -> Written

@@ -2,7 +2,7 @@
 // number, and the number that the writer gives for the same fields, or - where the record has no fields.
 ghost use mathlib.Core.Path.{_≡_};
 ghost use Rattle.record.specs.Reading.{numberOf};
-use record::Call;
+use layout::Call;
 use record::Read;
 use record::reader;
 use record::writer;

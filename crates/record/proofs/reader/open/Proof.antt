@@ -2,9 +2,9 @@
 use borrow.Author.Needs.{needs}
 use mathlib.Core.Path.{_≡_, sym, _∙_, ap}
 use denote.Ref.{now}
-use Rattle.record.specs.Marks.{markOf}
-use Rattle.record.specs.Fields.{letters}
-use Rattle.record.proofs.FieldsLaws.{opened-length, opened-unknown, opened-known}
+use Rattle.layout.specs.Marks.{markOf}
+use Rattle.layout.specs.Fields.{letters}
+use Rattle.record.proofs.OpenedLaws.{opened-length, opened-unknown, opened-known}
 use Rattle.record.proofs.reader.open.Statement.{statement}
 use Rattle.record.proofs.reader.open.Tie as tie
 

@@ -3,12 +3,12 @@ use borrow.Author.Needs.{needs}
 use mathlib.Core.Path.{_≡_, refl, sym}
 use Prim.Native.Nat.{ℕ, zero, suc}
 use lib.ListN.{replicate}
-use Rattle.record.specs.declared.Call.{Call}
+use Rattle.layout.specs.declared.Call.{Call}
 use Rattle.record.specs.declared.Written.{Written}
-use Rattle.record.specs.Fields.{recordLength}
+use Rattle.layout.specs.Fields.{recordLength}
 use Rattle.record.specs.Writing.{orZeros}
-use Rattle.record.specs.Promises.{FourPlaces}
-use Rattle.record.proofs.FieldsLaws.{bytes-long, bytes-head, bytes-list}
+use Rattle.layout.specs.Fields.{FourPlaces}
+use Rattle.layout.proofs.FieldsLaws.{bytes-long, bytes-head, bytes-list}
 use Rattle.record.proofs.writer.write.Statement.{statement}
 use Rattle.record.proofs.writer.write.Tie as tie
 

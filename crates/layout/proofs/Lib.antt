@@ -1,0 +1,3 @@
+-- Marks and fields, there and back.
+pub mod MarksLaws
+pub mod FieldsLaws

@@ -1,0 +1,77 @@
+-- The marks by their letters and by their places in the code's enum.
+use mathlib.Core.Path.{_≡_, refl, sym, _∙_, ap}
+use mathlib.Core.Bool.{Bool, true, false, cond}
+use mathlib.Core.List.{List, [], _∷_}
+use Prim.Native.Nat.{ℕ}
+use lib.ListN.{getD}
+use lib.Dec.{eqb}
+use native.Mathlib.Omega.{arith}
+use borrow.Author.Tests.{ne-eqb, eqb-true}
+use denote.Enum.Declared.{tagOf}
+use Rattle.layout.specs.declared.Mark.{Mark}
+use Rattle.layout.specs.declared.Mark.the-variants.{DT, DS, DB, IT, DC, AC, TE, SU, PR, CO, EN, RE, RQ, RL, TR, RS, FR, ET, LV, TG, EI, XI, TI}
+use Rattle.layout.specs.declared.Marked.the-variants.{Unknown, Known}
+use Rattle.layout.specs.Marks.{code, marks, among, markOf, form}
+use Rattle.layout.proofs.Mark as MarkT
+
+-- Each mark is the only one with its letters, and stands at its place in the list.
+found : (m : Mark) → (markOf (code m) ≡ Known m) × (getD marks (tagOf MarkT.the-type m) DT ≡ m)
+unfolding among
+found DT = (refl, refl)
+found DS = (refl, refl)
+found DB = (refl, refl)
+found IT = (refl, refl)
+found DC = (refl, refl)
+found AC = (refl, refl)
+found TE = (refl, refl)
+found SU = (refl, refl)
+found PR = (refl, refl)
+found CO = (refl, refl)
+found EN = (refl, refl)
+found RE = (refl, refl)
+found RQ = (refl, refl)
+found RL = (refl, refl)
+found TR = (refl, refl)
+found RS = (refl, refl)
+found FR = (refl, refl)
+found ET = (refl, refl)
+found LV = (refl, refl)
+found TG = (refl, refl)
+found EI = (refl, refl)
+found XI = (refl, refl)
+found TI = (refl, refl)
+
+-- What bears a mark's letters is that mark.
+pub known : (m : Mark) {n : ℕ} → n ≡ code m → Known m ≡ markOf n
+known m e = sym (ap markOf e ∙ found m .0)
+
+-- The form of the mark at a place.
+pub form-at : (m : Mark) (k : ℕ) → tagOf MarkT.the-type m ≡ k → form (getD marks k DT) ≡ form m
+form-at m k e = ap (λ (i : ℕ). form (getD marks i DT)) (sym e) ∙ ap form (found m .1)
+
+-- A number is the letters of none of these marks: as the arms of a match leave it, behind what is known before.
+abbrev pub NoneOf : List Mark → ℕ → Type 0 → Type 0
+NoneOf [] n A = A
+NoneOf (m ∷ ms) n A = NoneOf ms n (A × (n ≡ code m → ⊥))
+
+none-of : (ms : List Mark) (n : ℕ) (A : Type 0) → NoneOf ms n A → (among ms n ≡ Unknown) × A
+unfolding among
+none-of [] n A a = (refl, a)
+none-of (m ∷ ms) n A r =
+    let (e, (a, ne)) = none-of ms n (A × (n ≡ code m → ⊥)) r in
+    (rw (ne-eqb n (code m) ne) e, a)
+
+pub unknown : (n : ℕ) → NoneOf marks n Unit → Unknown ≡ markOf n
+unknown n r = sym (none-of marks n Unit r .0)
+
+-- A mark that is found bears the letters.
+among-code : (ms : List Mark) (n : ℕ) (m : Mark) → among ms n ≡ Known m → n ≡ code m
+unfolding among
+among-code [] n m e = let z : _≡_ {A = ℕ} 0 1 = cc in absurd (omega arith)
+among-code (x ∷ ms) n m e = first (eqb n (code x)) refl (among-code ms n m) e where
+  first : (b : Bool) → eqb n (code x) ≡ b → (among ms n ≡ Known m → n ≡ code m) → cond b (Known x) (among ms n) ≡ Known m → n ≡ code m
+  first true t later k = let same : x ≡ m = cc in eqb-true n (code x) t ∙ ap code same
+  first false t later k = later k
+
+pub found-code : {n : ℕ} {m : Mark} → markOf n ≡ Known m → n ≡ code m
+found-code {n} {m} e = among-code marks n m e

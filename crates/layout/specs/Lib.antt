@@ -1,0 +1,3 @@
+-- Where the fields of a record stand.
+pub mod Marks
+pub mod Fields
