@@ -16,7 +16,7 @@ use Rattle.lock.proofs.Levels.{Proper, SameSize}
 use Rattle.lock.proofs.Taking.{take-size, take-most}
 use Rattle.task.specs.State.{noTask, unheld, isKept, wanted, waitOver}
 use Rattle.task.specs.declared.Task.{Task}
-use Rattle.task.proofs.Turns.{rest-facts}
+use Rattle.task.proofs.Fairness.{rest-facts}
 use Rattle.kernel.specs.declared.Kernel.{Kernel}
 use Rattle.kernel.specs.declared.Counts.{Counts}
 use Rattle.kernel.specs.declared.Running.{Running}

@@ -22,7 +22,7 @@ use Rattle.task.specs.declared.Schedule.{Schedule}
 use Rattle.task.specs.declared.Task.{Task}
 use Rattle.task.specs.declared.Turn.{Turn}
 use Rattle.task.specs.Promises.{Fair}
-use Rattle.task.proofs.Turns.{rest-facts, like-refl, fair-unmarked, fair-due, fair-end, fair-prevent, fair-suspend, fair-continue, fair-resume, fair-tick, fair-schedule}
+use Rattle.task.proofs.Fairness.{rest-facts, like-refl, fair-unmarked, fair-due, fair-end, fair-prevent, fair-suspend, fair-continue, fair-resume, fair-tick, fair-schedule}
 use Rattle.kernel.specs.declared.Counts.{Counts}
 use Rattle.kernel.specs.Test.{isPriority, keptOk, holdOk, scheduleOk}
 use Rattle.kernel.specs.Calls.{scheduleOf, activateTurn}

@@ -5,7 +5,7 @@ use Prim.Native.Nat.{ℕ}
 use lib.ListN.{getD, set, replicate}
 use Rattle.calendar.specs.Times.{instant}
 use Rattle.calendar.specs.declared.Instant.{Instant}
-use Rattle.lock.specs.Locks.{emptyBolt}
+use Rattle.lock.specs.Locks.{mostLocks, emptyBolt}
 use Rattle.lock.specs.declared.Wait.{Wait}
 use Rattle.lock.specs.declared.Wait.the-variants.{Nothing, Request, Reserve, Enter}
 use Rattle.lock.specs.declared.Locks.{Locks}
@@ -22,10 +22,10 @@ abbrev pub mostTasks : ℕ
 mostTasks = 32
 
 abbrev pub mostSemaphores : ℕ
-mostSemaphores = 16
+mostSemaphores = mostLocks
 
 abbrev pub mostBolts : ℕ
-mostBolts = 16
+mostBolts = mostLocks
 
 abbrev pub mostInterrupts : ℕ
 mostInterrupts = 8

@@ -8,3 +8,5 @@ pub mod Changes
 pub mod Each
 pub mod Tables
 pub mod Alike
+pub mod Room
+pub mod Rests

@@ -10,6 +10,10 @@ use Rattle.lock.specs.declared.Wait.the-variants.{Nothing, Request, Rese
 use Rattle.lock.specs.declared.Bolt.{Bolt}
 use Rattle.lock.specs.declared.Locks.{Locks}
 
+-- The places of the table of semaphores, and of that of bolts.
+abbrev pub mostLocks : ℕ
+mostLocks = 16
+
 abbrev pub waiting : Wait → Bool
 waiting Nothing = false
 waiting Request = true

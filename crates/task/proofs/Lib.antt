@@ -1,4 +1,6 @@
 -- Laws of one task's turn.
-pub mod Turns
+pub mod Fairness
 pub mod Triggers
 pub mod Waits
+pub mod Ranges
+pub mod Laws

@@ -1,4 +1,4 @@
--- What one task's turn keeps. Proved in proofs/Turns.antt and proofs/Triggers.antt.
+-- What one task's turn keeps. Proved in proofs/Fairness.antt and proofs/Triggers.antt.
 use mathlib.Core.Path.{_≡_}
 use mathlib.Core.Bool.{Bool, true, false, not, _&&_, _||_}
 use Prim.Native.Nat.{ℕ, _+_}

@@ -1,5 +1,5 @@
 -- One task's turn: what a due, an end, a tick or a call does to it, and which sets have it (document 01, "The step").
-use mathlib.Core.Bool.{Bool, true, false, cond, _&&_}
+use mathlib.Core.Bool.{Bool, true, false, cond, _&&_, _||_}
 use Prim.Native.Nat.{ℕ, zero, suc}
 use lib.Dec.{eqb}
 use Rattle.calendar.specs.declared.Instant.{Instant}
@@ -98,6 +98,10 @@ fallTurn n t =
 -- A tick to n: the delay first, then the schedule.
 abbrev pub tickTurn : Instant → Task → Turn
 tickTurn n t = fallTurn n (wake n t)
+
+-- A tick to n changes the task.
+abbrev pub stirs : Instant → Task → Bool
+stirs n t = delayEnds n (t .hold) || falls n (t .schedule .alarm)
 
 -- A schedule, from now on.
 abbrev pub scheduleTurn : Instant → Schedule → Task → Turn

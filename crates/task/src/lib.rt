@@ -1,4 +1,7 @@
 // One task: its priorities, wait, hold, kept-back start and schedule.
+pub mod schedules;
+pub mod turns;
+
 use calendar::Duration;
 use calendar::End;
 use calendar::Instant;

@@ -1,0 +1,53 @@
+-- By the next due and the kind of the plan.
+use borrow.Author.Needs.{needs}
+use Rattle.task.specs.Schedules.{advance}
+use Rattle.task.proofs.Schedule.advance.Statement.{statement}
+use Rattle.task.proofs.Schedule.advance.Tie as tie
+
+next-due-requires : tie.Need-next-due-requires
+next-due-requires c κs = search needs
+
+enum-known-next : tie.Need-enum-known-next
+enum-known-next c = search needs
+
+with-alarm-requires : tie.Need-with-alarm-requires
+with-alarm-requires c κs = search needs
+
+enum-told : tie.Need-enum-told
+enum-told c = search needs
+
+is-on-interrupt-requires : tie.Need-is-on-interrupt-requires
+is-on-interrupt-requires c κs = search needs
+
+with-alarm-requires-2 : tie.Need-with-alarm-requires-2
+with-alarm-requires-2 c κs = search needs
+
+returns : tie.Need-returns
+unfolding advance
+returns c = rw (← c .before .before .before .before .before .next-due .ensures, c .before .before .before .enum-told .given .1, ← c .before .before .is-on-interrupt .ensures, c .before .if1 .taken) (c .with-alarm2 .ensures)
+
+none-requires : tie.Need-none-requires
+none-requires c κs = search needs
+
+returns-2 : tie.Need-returns-2
+unfolding advance
+returns-2 c = rw (← c .before .before .before .before .next-due .ensures, c .before .before .next .given .1) (c .with-alarm .ensures)
+
+returns-3 : tie.Need-returns-3
+unfolding advance
+returns-3 c = rw (← c .before .before .before .before .before .next-due .ensures, c .before .before .before .enum-told .given .1, ← c .before .before .is-on-interrupt .ensures, c .before .if1 .left) (c .none .ensures)
+
+pub advance-spec : {M : Type 1} → statement M
+advance-spec =
+    tie.close
+    (tie.spec
+    next-due-requires
+    enum-known-next
+    with-alarm-requires
+    enum-told
+    is-on-interrupt-requires
+    with-alarm-requires-2
+    returns
+    none-requires
+    returns-2
+    returns-3)
