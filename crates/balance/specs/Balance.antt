@@ -63,7 +63,7 @@ abbrev pub prevents : Read → ℕ → Bool
 prevents (Refused n) i = false
 prevents (Accepted h) i = is (h .mark) PR && eqb (h .number) i
 
--- Lost: due while alive with a start kept back, or an accepted PR of a start kept back.
+-- The two ways to lose a start; both need one kept back.
 abbrev pub loses : Kernel → List ℕ → Answer → ℕ → Bool
 loses k r a i =
     isKept (taskAt (k .tasks) i .kept)

@@ -19,7 +19,7 @@ lastInstant = 2 ^ 40
 abbrev pub mostInstant : ℕ
 mostInstant = 2 ^ 42
 
--- What depends on the length of a day takes it as its first argument.
+-- A rule that needs the length of a day is given it, as its first argument.
 abbrev pub isTimeOfDay : ℕ → ℕ → Bool
 isTimeOfDay day t = ltb t day
 

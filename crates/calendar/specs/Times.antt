@@ -9,15 +9,15 @@ instant n = record { 0 = n }
 abbrev pub duration : ℕ → Duration
 duration d = record { 0 = d }
 
--- An instant plus a duration is an instant.
+-- The only sum of an instant: a duration later.
 abbrev pub plus : Instant → Duration → Instant
 plus n d = instant (n .0 + d .0)
 
 module _ (day : ℕ) where
-  -- The time of day at n, from the time of day at instant 0, the clock.
+  -- Which time of day n is, where the clock says what it was at instant 0.
   unfoldable pub timeOfDay : ℕ → Instant → ℕ
   timeOfDay clock n = (clock + n .0) % day
 
-  -- (t - time of day at n) mod one day: from n to the next time of day t.
+  -- How long it is from n to the next t: the difference of the two times, modulo a day.
   unfoldable pub until : ℕ → Instant → ℕ → Duration
   until clock n t = duration ((t + (day - timeOfDay clock n)) % day)

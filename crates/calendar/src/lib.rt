@@ -52,7 +52,7 @@ pub fn is_duration(d: u32) -> bool
     1 <= d && d <= LONGEST_DURATION
 }
 
-// A period of 0 means no repetition.
+// Without repetition the period is 0, which passes.
 pub fn is_period(p: u32) -> bool
     ensures { λ r. ⌜ r ≡ isPeriod p ⌝ }
 {
@@ -69,7 +69,7 @@ impl Instant {
         Instant(self.0 + d.0 as u64)
     }
 
-    // The time of day here, from the time of day at instant 0.
+    // Which time of day it is here; clock says what it was at instant 0.
     pub fn time_of_day(self, clock: u32) -> u32
         ensures { λ r. ⌜ r ≡ timeOfDay day clock self ⌝ }
     {

@@ -89,17 +89,17 @@ pub record MarkedCases : Type 0 where
       ∷ line 0 (Runs 1) 0 0 0 0 2
       ∷ line 9 (Runs 1) 0 0 0 0 0
       ∷ []
-  -- At 12:00 the evening's starts come due after 36,000,000, 43,200,000 and 50,400,000 ms, and at no other tick.
+  -- Seen from 12:00: dues at 36,000,000 ms and then twice at intervals of 2 h, and no other tick has one.
   pub m2 : (d : ℕ) → 50400000 + d ≤ 2 ^ 40
       → answers (evening (hours 12) ++ row (50400000 + d) oneTick) ≡ eveningLines 36000000 d
   -- At 23:00 the first comes due after 82,800,000 ms, the others 2 h and 4 h later.
   pub m3 : (d : ℕ) → 97200000 + d ≤ 2 ^ 40
       → answers (evening (hours 23) ++ row (97200000 + d) oneTick) ≡ eveningLines 82800000 d
-  -- AT the present time is due in the call, and an UNTIL equal to the first leaves it the only start.
+  -- A start AT this very time is made by the call itself; with UNTIL that same time no other follows.
   pub m4 : (d : ℕ) → d ≤ 2 ^ 40
       → answers (declareTask 5 ∷ declareClock (hours 12) ∷ (AT hours 12 ALL hours 1 UNTIL hours 12 ACTIVATE 0) ∷ row d oneTick)
       ≡ quiet Idle ∷ quiet Idle ∷ line 0 (Runs 0) 1 1 0 0 0 ∷ row d (quiet (Runs 0))
-  -- Three dues on a living task: one is kept back, two are lost.
+  -- The living task is due three times: the first start is kept back, the others are lost.
   pub m5 : answers threeDues
       ≡ quiet Idle
       ∷ line 0 (Runs 0) 1 1 0 0 0
@@ -112,7 +112,7 @@ pub record MarkedCases : Type 0 where
   -- RELEASE at 65,534 passes, the next one is refused with 13 and changes nothing.
   pub m7 : answers full ≡ quiet Idle ∷ quiet Idle ∷ line 0 (Runs 0) 1 1 0 0 0 ∷ quiet (Runs 0) ∷ plainAnswer 13 (Runs 0) ∷ []
   pub m7-value : valueAt (after full .locks) 0 ≡ 65535
-  -- REQUEST of (0, 1) with 1 at zero: the task waits for both, and 0 keeps its value.
+  -- The second semaphore asked for has nothing left: the task waits for both, and the first keeps its value.
   pub m8 : answers half ≡ quiet Idle ∷ quiet Idle ∷ quiet Idle ∷ line 0 (Runs 0) 1 1 0 0 0 ∷ quiet Idle ∷ []
   pub m8-values : (valueAt (after half .locks) 0 ≡ 1) × (valueAt (after half .locks) 1 ≡ 0)
   pub m8-waits : (taskAt (after half .tasks) 0 .wait ≡ Request) × (wanted (taskAt (after half .tasks) 0) ≡ 0 ∷ 1 ∷ [])

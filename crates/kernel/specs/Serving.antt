@@ -1,4 +1,4 @@
--- Serving, at the end of every accepted call.
+-- Serving: what ends every accepted call.
 use mathlib.Core.List.{List}
 use Prim.Native.Nat.{ℕ, zero, suc}
 use lib.ListN.{set}

@@ -47,7 +47,7 @@ countOf n Enter = n .bolts
 
 -- ---- a fresh kernel
 
--- A declared task: terminated, its current priority the declared one, with no schedule.
+-- A task as its declaration leaves it.
 unfoldable pub freshTask : ℕ → Task
 freshTask p =
     record {

@@ -40,7 +40,7 @@ abbrev pub Asked : Kernel → ℕ → Bool → Wait → Call → Bool → Work �
 Asked k i waits w c true a = Taken k i w c a
 Asked k i waits w c false a = Untaken k i waits w c a
 
--- The runner's list is granted whole, or it waits holding none of it.
+-- Asking takes all of the list or nothing.
 abbrev pub AsksWhole : Type 0
 AsksWhole =
     (k : Kernel) (i : ℕ) (waits : Bool) (w : Wait) (c : Call) → runner k ≡ Runs i

@@ -105,7 +105,7 @@ unfoldable pub forEach : (Locks → ℕ → Locks) → Locks → List ℕ → Lo
 forEach f r [] = r
 forEach f r (x ∷ l) = forEach f (f r x) l
 
--- A list is grantable when all of it is.
+-- Every number of the list is free: a list goes whole or not at all.
 abbrev pub grantable : Wait → Locks → List ℕ → Bool
 grantable w r l = every (free w r) l
 

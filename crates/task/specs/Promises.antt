@@ -26,7 +26,7 @@ pub record Fair (p : Bool) (t : Task) (u : Turn) : Type 0 where
   pub starts : bit (isKept (t .kept)) + bit (u .due) ≡ bit (u .started) + bit (u .lost) + bit (isKept (u .task .kept))
   -- what was alive and what starts has ended or is alive
   pub ends : bit (t .alive) + bit (u .started) ≡ bit (u .ended) + bit (u .task .alive)
-  -- lost exactly when due while alive with a start kept back, or kept back and prevented
+  -- a loss has one of two causes, and each of them is a loss
   pub lost : u .lost ≡ (isKept (t .kept) && ((u .due && t .alive) || p))
   -- a wait goes on, with its list, until the task ends
   pub waits : waiting (u .task .wait) ≡ (waiting (t .wait) && not (u .ended))
@@ -51,7 +51,7 @@ TriggerReplaces =
     × (setOff day clock n s .alarm .next ≡ plus n (s .alarm .delay))
     × (setOff day clock n s .last ≡ lastAllowed day (s .end) clock (plus n (s .alarm .delay)))
 
--- After a due at n: the next instant of the calendar; else WHEN stays armed, and another schedule is gone.
+-- What a due leaves of a schedule, by what the calendar says comes next.
 pub record AdvanceGoesOn : Type 0 where
   pub next : (n m : Instant) (s : Schedule) → nextDue (s .period) (s .last) n ≡ At m
       → (advance n s .alarm .plan ≡ s .alarm .plan) × (advance n s .alarm .next ≡ m) × (advance n s .last ≡ s .last)

@@ -47,7 +47,7 @@ abbrev pub advanced : Moment → Schedule → Schedule
 advanced Never s = cond (onInterrupt (s .alarm .plan)) (withAlarm Armed (s .alarm .next) (s .last) s) noSchedule
 advanced (At n) s = withAlarm (s .alarm .plan) n (s .last) s
 
--- After a due at n: the next one; else a WHEN schedule stays armed, and another is gone.
+-- What a due at n leaves: the next due if the calendar has one, else an armed WHEN or nothing.
 unfoldable pub advance : Instant → Schedule → Schedule
 advance n s = advanced (nextDue (s .period) (s .last) n) s
 

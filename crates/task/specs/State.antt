@@ -58,7 +58,7 @@ abbrev pub isKept : Kept → Bool
 isKept Empty = false
 isKept (Back p) = true
 
--- Alive, unheld and waiting for nothing.
+-- Could run if nobody more urgent could.
 abbrev pub runnable : Task → Bool
 runnable t = t .alive && unheld (t .hold) && not (waiting (t .wait))
 

@@ -25,7 +25,7 @@ cleared t = withHold Unheld (withKept Empty (waitOver t))
 abbrev pub running : ℕ → Task → Task
 running p t = withAlive true (withCurrent p (cleared t))
 
--- A task that ends: its current priority is the declared one again, its schedule stays.
+-- A task that has ended. Its priority goes back; its schedule is not touched.
 abbrev pub terminated : Task → Task
 terminated t = withAlive false (withCurrent (t .declared) (cleared t))
 

@@ -14,7 +14,7 @@ pub enum Hold {
     Delayed(Instant),
 }
 
-// A start kept back with its priority, or none.
+// The priority of the start that waits for the task to end, if there is one.
 pub enum Kept {
     Empty,
     Back(u8),
@@ -29,7 +29,7 @@ pub enum Plan {
     Triggered,
 }
 
-// What of a schedule waits and fires. The delay runs from a trigger; 0 is none.
+// The part of a schedule that comes due. The delay runs from a trigger; 0 is none.
 pub struct Alarm {
     pub plan: Plan,
     pub interrupt: u8,
