@@ -1,7 +1,11 @@
--- The limits of document 01, "What a kernel holds", each named once. A tick is 1 ms.
+-- The limits of document 01, "What a kernel holds", each named once. All times are counted in ticks of 1 ms.
 use mathlib.Core.Bool.{Bool, _&&_}
 use Prim.Native.Nat.{ℕ, _^_}
 use lib.Dec.{leb, ltb}
+
+-- one tick, by which the present instant grows
+abbrev pub tick : ℕ
+tick = 1
 
 -- the ticks of a day
 abbrev pub day : ℕ

@@ -5,7 +5,9 @@ ghost use Rattle.calendar.specs.Limits.{day, mostInstant, isTimeOfDay, i
 ghost use Rattle.calendar.specs.Times.{plus, timeOfDay, until};
 ghost use Rattle.calendar.specs.Dues.{firstDue, lastAllowed, allowed, nextDue};
 
-// A tick is one millisecond. Instants, durations and times of day are counted in ticks.
+// Instants, durations and times of day are counted in ticks of one millisecond.
+pub const TICK: u32 = 1;
+
 pub const DAY: u32 = 86_400_000;
 
 pub const LONGEST_DURATION: u32 = 1_000_000_000;

@@ -1,12 +1,13 @@
 -- Laws of the scans over the numbers below n.
-use mathlib.Core.Path.{_≡_, refl, _∙_}
+use mathlib.Core.Path.{_≡_, refl}
 use mathlib.Core.Logic.{_≢_}
 use mathlib.Core.Bool.{Bool, true, false}
 use Prim.Native.Nat.{ℕ, zero, suc, _+_, _≤_, _<_}
 use native.Mathlib.Nat.{not-suc-le-zero}
 use native.Mathlib.Omega.{arith}
 use lib.Dec.{ltb}
-use Rattle.lock.proofs.Bools.{byBool, byEq, both, and-both}
+use borrow.Author.Tests.{ltb-true, ltb-false}
+use Rattle.lock.proofs.Bools.{byBool, byEq, contra, both, and-both}
 use Rattle.kernel.specs.Sums.{sumBelow}
 use Rattle.kernel.specs.Running.{mostUrgent, better}
 use Rattle.kernel.specs.Test.{allBelow}
@@ -29,28 +30,40 @@ all-from (suc n) f h = and-both (all-from n f (λ i l. h i (omega arith))) (h n 
 
 -- ---- the most urgent
 
-pub mostUrgent-idle : (n : ℕ) (c : ℕ → Bool) (p : ℕ → ℕ) → mostUrgent n c p ≡ Idle → (i : ℕ) → i < n → c i ≡ false
-unfolding mostUrgent
-mostUrgent-idle zero c p e i h = absurd (not-suc-le-zero h)
-mostUrgent-idle (suc n) c p e i h = byBool (c n) (λ q. absurd (never (mostUrgent n c p) (rw q at e))) (λ q. byEq i n (λ r. rw r q) (λ r. mostUrgent-idle n c p (rw q at e) i (omega arith)))
-  where
-    never : (r : Running) → better p r n ≡ Idle → ⊥
-    never Idle d = let z : _≡_ {A = ℕ} 0 1 = cc in omega arith
-    never (Runs j) d = byBool (ltb (p n) (p j)) (λ q. let x = rw q at d in let z : _≡_ {A = ℕ} 0 1 = cc in omega arith) (λ q. let x = rw q at d in let z : _≡_ {A = ℕ} 0 1 = cc in omega arith)
+-- What the scan finds by a number u: the smallest u, or nothing where none passes.
+abbrev pub Found : ℕ → (ℕ → Bool) → (ℕ → ℕ) → Running → Type 0
+Found n test u Idle = (j : ℕ) → j < n → test j ≡ false
+Found n test u (Runs i) = (i < n) × (test i ≡ true) × ((j : ℕ) → j < n → test j ≡ true → u i ≤ u j)
 
-mostUrgent-more : (n : ℕ) (c : ℕ → Bool) (p : ℕ → ℕ) (j : ℕ) → (mostUrgent n c p ≡ Runs j → (j < n) × (c j ≡ true)) → c n ≡ true → (r : Running) → mostUrgent n c p ≡ r
-    → better p r n ≡ Runs j → (j < suc n) × (c j ≡ true)
-mostUrgent-more n c p j ih q Idle w d = let x : n ≡ j = cc in (omega arith, rw (← x) q)
-mostUrgent-more n c p j ih q (Runs i) w d =
-    byBool (ltb (p n) (p i)) (λ t. let y = rw t at d in let x : n ≡ j = cc in (omega arith, rw (← x) q))
-    (λ t. let h = ih (w ∙ rw t at d) in (omega arith, h .1))
+module _ (n : ℕ) (test : ℕ → Bool) (u : ℕ → ℕ) where
+  -- One more number, that doesn't pass.
+  passed-over : (r : Running) → test n ≡ false → Found n test u r → Found (suc n) test u r
+  passed-over Idle e f = λ j l. byEq j n (λ q. rw q e) (λ q. f j (omega arith))
+  passed-over (Runs i) e f =
+      (omega arith, f .1, λ j l t. byEq j n (λ q. contra t (rw q e)) (λ q. f .2 j (omega arith) t))
+
+  -- One more number, that passes.
+  weighed : (r : Running) → test n ≡ true → Found n test u r → Found (suc n) test u (better u r n)
+  weighed Idle e f = (omega arith, e, λ j l t. byEq j n (λ q. rw q (omega arith)) (λ q. contra t (f j (omega arith))))
+  weighed (Runs i) e f =
+      byBool (ltb (u n) (u i))
+      (λ b. let lt = ltb-true (u n) (u i) b in rw b
+      (omega arith, e, λ j l t. byEq j n (λ q. rw q (omega arith)) (λ q. let h = f .2 j (omega arith) t in omega arith)))
+      (λ b. let le = ltb-false (u n) (u i) b in rw b
+      (omega arith, f .1, λ j l t. byEq j n (λ q. rw q le) (λ q. f .2 j (omega arith) t)))
+
+pub scan-finds : (n : ℕ) (test : ℕ → Bool) (u : ℕ → ℕ) → Found n test u (mostUrgent n test u)
+unfolding mostUrgent
+scan-finds zero test u = λ j l. absurd (not-suc-le-zero l)
+scan-finds (suc n) test u =
+    byBool (test n) (λ e. rw e (weighed n test u (mostUrgent n test u) e (scan-finds n test u)))
+    (λ e. rw e (passed-over n test u (mostUrgent n test u) e (scan-finds n test u)))
+
+pub mostUrgent-idle : (n : ℕ) (c : ℕ → Bool) (p : ℕ → ℕ) → mostUrgent n c p ≡ Idle → (i : ℕ) → i < n → c i ≡ false
+mostUrgent-idle n c p e = rw e at (scan-finds n c p)
 
 pub mostUrgent-at : (n : ℕ) (c : ℕ → Bool) (p : ℕ → ℕ) (j : ℕ) → mostUrgent n c p ≡ Runs j → (j < n) × (c j ≡ true)
-unfolding mostUrgent
-mostUrgent-at zero c p j e = let z : _≡_ {A = ℕ} 0 1 = cc in absurd (omega arith)
-mostUrgent-at (suc n) c p j e =
-    byBool (c n) (λ q. mostUrgent-more n c p j (mostUrgent-at n c p j) q (mostUrgent n c p) refl (rw q at e))
-    (λ q. let h = mostUrgent-at n c p j (rw q at e) in (omega arith, h .1))
+mostUrgent-at n c p j e = let f : Found n c p (Runs j) = rw e at (scan-finds n c p) in (f .0, f .1)
 
 pub mostUrgent-none : (n : ℕ) (c : ℕ → Bool) (p : ℕ → ℕ) → ((i : ℕ) → i < n → c i ≡ false) → mostUrgent n c p ≡ Idle
 unfolding mostUrgent

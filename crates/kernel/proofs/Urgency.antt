@@ -13,39 +13,11 @@ use Rattle.task.specs.declared.Task.{Task}
 use Rattle.kernel.specs.declared.Kernel.{Kernel}
 use Rattle.kernel.specs.declared.Running.{Running}
 use Rattle.kernel.specs.declared.Running.the-variants.{Idle, Runs}
+use Rattle.kernel.proofs.Below.{Found, scan-finds}
 use Rattle.kernel.specs.State.{mostTasks, taskAt}
 use Rattle.kernel.specs.Running.{urgency, better, mostUrgent, runningOf, runner}
 use Rattle.kernel.specs.Granting.{servable}
 use Rattle.kernel.specs.Promises.{Chosen, ScanFindsFirst, RunnerIsFirst, NextServedIsFirst}
-
--- What the scan finds by a number u: the smallest u, or nothing where none passes.
-abbrev Found : ℕ → (ℕ → Bool) → (ℕ → ℕ) → Running → Type 0
-Found n test u Idle = (j : ℕ) → j < n → test j ≡ false
-Found n test u (Runs i) = (i < n) × (test i ≡ true) × ((j : ℕ) → j < n → test j ≡ true → u i ≤ u j)
-
-module _ (n : ℕ) (test : ℕ → Bool) (u : ℕ → ℕ) where
-  -- One more number, that doesn't pass.
-  passed-over : (r : Running) → test n ≡ false → Found n test u r → Found (suc n) test u r
-  passed-over Idle e f = λ j l. byEq j n (λ q. rw q e) (λ q. f j (omega arith))
-  passed-over (Runs i) e f =
-      (omega arith, f .1, λ j l t. byEq j n (λ q. contra t (rw q e)) (λ q. f .2 j (omega arith) t))
-
-  -- One more number, that passes.
-  weighed : (r : Running) → test n ≡ true → Found n test u r → Found (suc n) test u (better u r n)
-  weighed Idle e f = (omega arith, e, λ j l t. byEq j n (λ q. rw q (omega arith)) (λ q. contra t (f j (omega arith))))
-  weighed (Runs i) e f =
-      byBool (ltb (u n) (u i))
-      (λ b. let lt = ltb-true (u n) (u i) b in rw b
-      (omega arith, e, λ j l t. byEq j n (λ q. rw q (omega arith)) (λ q. let h = f .2 j (omega arith) t in omega arith)))
-      (λ b. let le = ltb-false (u n) (u i) b in rw b
-      (omega arith, f .1, λ j l t. byEq j n (λ q. rw q le) (λ q. f .2 j (omega arith) t)))
-
-scan-finds : (n : ℕ) (test : ℕ → Bool) (u : ℕ → ℕ) → Found n test u (mostUrgent n test u)
-unfolding mostUrgent
-scan-finds zero test u = λ j l. absurd (not-suc-le-zero l)
-scan-finds (suc n) test u =
-    byBool (test n) (λ e. rw e (weighed n test u (mostUrgent n test u) e (scan-finds n test u)))
-    (λ e. rw e (passed-over n test u (mostUrgent n test u) e (scan-finds n test u)))
 
 -- The number orders by priority, then by task number.
 first-of-found : (n : ℕ) (test : ℕ → Bool) (ts : List Task) → n ≤ mostTasks → (r : Running) → Found n test (urgency ts) r → Chosen n test ts r

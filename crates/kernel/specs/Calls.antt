@@ -4,6 +4,7 @@ use mathlib.Core.List.{List}
 use Prim.Native.Nat.{ℕ, zero, suc, _+_, _^_}
 use lib.ListN.{set}
 use lib.Dec.{eqb}
+use Rattle.calendar.specs.Limits.{tick as oneTick}
 use Rattle.calendar.specs.Times.{instant, duration, plus}
 use Rattle.calendar.specs.declared.Instant.{Instant}
 use Rattle.calendar.specs.declared.Start.{Start}
@@ -125,4 +126,4 @@ trigger day k i = cond (enabledAt k i) (everyTurn k (k .now) (triggerTurn day (k
 
 -- One tick.
 unfoldable pub tick : Kernel → Work
-tick k = everyTurn k (plus (k .now) (duration 1)) (tickTurn (plus (k .now) (duration 1)))
+tick k = everyTurn k (plus (k .now) (duration oneTick)) (tickTurn (plus (k .now) (duration oneTick)))
