@@ -72,13 +72,13 @@ serve-keeps n P one (suc turns) p h = go (λ q. serve-keeps n P one turns q) (ne
 unfoldable pub waiters : ℕ → List Task → ℕ
 waiters n ts = sumBelow n (λ i. bit (waiting (taskAt ts i .wait)))
 
-grant-fewer : (n : ℕ) (p : Served) (j : ℕ) → j < n → servable n (p .tasks) (p .locks) j ≡ true → waiters n (grantTo j p .tasks) + 1 ≡ waiters n (p .tasks)
+pub grant-fewer : (n : ℕ) (p : Served) (j : ℕ) → j < n → servable n (p .tasks) (p .locks) j ≡ true → waiters n (grantTo j p .tasks) + 1 ≡ waiters n (p .tasks)
 unfolding waiters
 grant-fewer n p j l e =
     sum-update n (λ i. bit (waiting (taskAt (grantTo j p .tasks) i .wait))) (λ i. bit (waiting (taskAt (p .tasks) i .wait))) j 1 l
     (rw (grant-at n p j e, served-waits n p j e)) (λ i ne. rw (grant-other p j i ne))
 
-waiters-le : (n : ℕ) (ts : List Task) → waiters n ts ≤ n
+pub waiters-le : (n : ℕ) (ts : List Task) → waiters n ts ≤ n
 unfolding waiters
 waiters-le n ts = sum-le n _ (λ i. bit-le (waiting (taskAt ts i .wait)))
 

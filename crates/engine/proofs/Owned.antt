@@ -1,0 +1,53 @@
+-- What owning a kernel by value tells of its semaphores and bolts: a value, and a number of readers, is a u16.
+-- With s the start of a function whose first parameter is the kernel, `(s .good .0 .0, s .good .0 .1 .1)` is an `Owned k`.
+use mathlib.Core.Path.{_≡_}
+use mathlib.Core.Bool.{true}
+use mathlib.Core.List.{List, [], _∷_, map}
+use Prim.Native.Nat.{ℕ, zero, suc, _<_}
+use native.Mathlib.Omega.{arith}
+use lib.Dec.{leb}
+use lib.ListN.{getD}
+use mir.Val.{Val}
+use mir.Syntax.{w16}
+use denote.Shadow.{shadow}
+use denote.Array.{each}
+use denote.RattleType.{owns, Valss}
+use denote.Struct.Declared.{shape}
+use borrow.Author.Needs.{elem-fits-field}
+use borrow.Author.Tests.{le-leb}
+use Rattle.record.specs.Refusals.{mostValue}
+use Rattle.lock.specs.Locks.{emptyBolt, valueAt, boltAt}
+use Rattle.lock.specs.declared.Bolt.{Bolt}
+use Rattle.lock.proofs.Bolt as BoltT
+use Rattle.kernel.specs.Test.{allBelow}
+use Rattle.kernel.specs.declared.Kernel.{Kernel}
+use Rattle.kernel.proofs.Kernel as KernelT
+use Rattle.kernel.proofs.Below.{all-from}
+
+abbrev pub Owned : Kernel → Type 0
+Owned k = (v : Valss (shape KernelT.the-type .fields)) × shadow (owns (shape KernelT.the-type .fields) (KernelT.the-type .to k) v)
+
+-- The readers of each bolt of a table.
+readers-fit :
+    (bs : List Bolt) (us : List Val) →
+    shadow (each (BoltT.the-field .row .Denot) (BoltT.the-field .row .own) (map (BoltT.the-field .into) bs) us) →
+    (i : ℕ) → getD bs i emptyBolt .readers < 65536
+readers-fit [] us p i = omega arith
+readers-fit (b ∷ bs) [] p i = absurd p
+readers-fit (b ∷ bs) (u ∷ us) p zero = p .0 .1 .1 .1 .0 .1
+readers-fit (b ∷ bs) (u ∷ us) p (suc i) = readers-fit bs us (p .1) i
+
+module _ (k : Kernel) (g : Owned k) where
+  value-fits : (i : ℕ) → valueAt (k .locks) i < 65536
+  value-fits i =
+      let l = g .1 .1 .0 .1 .1 .0 in
+      elem-fits-field w16 w16 (k .locks .semaphores) (l .0) i (l .1 .1) tt .fits
+
+  bolt-fits : (i : ℕ) → boltAt (k .locks) i .readers < 65536
+  bolt-fits i = let l = g .1 .1 .0 .1 .1 .1 .0 in readers-fit (k .locks .bolts) (l .0) (l .1 .1) i
+
+  pub values-small : (n : ℕ) → allBelow n (λ i. leb (valueAt (k .locks) i) mostValue) ≡ true
+  values-small n = all-from n _ (λ i l. le-leb (valueAt (k .locks) i) mostValue (omega (arith, value-fits i)))
+
+  pub readers-small : (n : ℕ) → allBelow n (λ i. leb (boltAt (k .locks) i .readers) mostValue) ≡ true
+  readers-small n = all-from n _ (λ i l. le-leb (boltAt (k .locks) i .readers) mostValue (omega (arith, bolt-fits i)))

@@ -1,0 +1,21 @@
+-- Each part by its own test.
+use borrow.Author.Needs.{needs}
+use Rattle.engine.proofs.check.are_terms_ok.Statement.{statement}
+use Rattle.engine.proofs.check.are_terms_ok.Tie as tie
+
+is-priority-requires : tie.Need-is-priority-requires
+is-priority-requires c κs = search needs
+
+is-period-requires : tie.Need-is-period-requires
+is-period-requires c κs = search needs
+
+is-end-ok-requires : tie.Need-is-end-ok-requires
+is-end-ok-requires c κs = search needs
+
+returns : tie.Need-returns
+returns c =
+    rw (c .before .before .is-priority .ensures, c .before .is-period .ensures, c .is-end-ok .ensures)
+
+pub are-terms-ok-spec : {M : Type 1} → statement M
+are-terms-ok-spec =
+    tie.close (tie.spec is-priority-requires is-period-requires is-end-ok-requires returns)
