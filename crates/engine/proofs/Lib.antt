@@ -8,3 +8,6 @@ pub mod ServeLaws
 pub mod TestLaws
 pub mod MarkLaws
 pub mod RefusalLaws
+pub mod TurnCases
+pub mod AskLaws
+pub mod EveryTask

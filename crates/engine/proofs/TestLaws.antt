@@ -161,7 +161,7 @@ module _ (k : Kernel) (i : ℕ) {w : Bool} (waits : w ≡ waiting (taskAt (k .ta
 
 -- ---- the kernel
 
-wait-of : (day : ℕ) (n : Counts) (t : Task) → taskOk day n t ≡ true → waitOk n t ≡ true
+pub wait-of : (day : ℕ) (n : Counts) (t : Task) → taskOk day n t ≡ true → waitOk n t ≡ true
 unfolding taskOk
 wait-of day n t e =
     let s = scheduleOk day (n .interrupts) (t .schedule .alarm .plan) (t .schedule) in

@@ -12,6 +12,10 @@ use Rattle.kernel.specs.Serving.{Served, serve}
 use Rattle.kernel.specs.Test.{allBelow, countsOk, waitOk}
 use Rattle.kernel.specs.declared.Kernel.{Kernel}
 use Rattle.engine.specs.declared.serving.Marks.{Marks}
+use Rattle.layout.specs.declared.Call.{Call}
+use Rattle.kernel.specs.declared.Stepped.{Stepped}
+use Rattle.kernel.specs.Refusals.{stateRefusal}
+use Rattle.kernel.specs.Step.{orRefuse, carryOut}
 use Rattle.kernel.specs.declared.Running.{Running}
 use Rattle.kernel.specs.declared.Running.the-variants.{Idle, Runs}
 
@@ -56,6 +60,14 @@ workHere k m =
       lost = m .lost;
       granted = m .granted;
     }
+
+-- The sets of a work.
+abbrev pub marksOf : Work → Marks
+marksOf w = record { due = w .due; started = w .started; ended = w .ended; lost = w .lost; granted = w .granted }
+
+-- What is left of a call or declaration that no formal ground refuses.
+unfoldable pub accordingly : ℕ → Kernel → Call → Stepped
+accordingly day k c = orRefuse k (stateRefusal k c) (carryOut day (c .head .mark) k c)
 
 -- An activation's task and interrupt are declared.
 abbrev pub startDeclared : Counts → Head → Bool

@@ -1,9 +1,12 @@
-// The kernel's code over the machine's state: a fresh kernel, the kernel test, the running task, serving, the
-// refusals that need no state, declarations. The calls themselves follow.
+// The kernel's code over the machine's state, function by function equal to the machine. The table of all marks
+// and the step follow.
+pub mod asking;
 pub mod check;
+pub mod clock;
 pub mod declarations;
 pub mod fresh;
 pub mod refusals;
 pub mod scan;
 pub mod serving;
 pub mod sets;
+pub mod turns;

@@ -1,0 +1,239 @@
+-- The turns of all tasks, one after the other: what the tables and the sets are with the first i turns made.
+use mathlib.Core.Path.{_≡_, refl, sym, _∙_, ap}
+use mathlib.Core.Bool.{Bool, true, false, _&&_}
+use mathlib.Core.List.{List, [], _∷_, _++_, map}
+use Prim.Native.Nat.{ℕ, zero, suc, _+_, _*_, _^_, _≤_, _<_}
+use native.Mathlib.Nat.{not-suc-le-zero, pow-suc, one-mul}
+use native.Mathlib.Numerals.{add-one}
+use native.Mathlib.Omega.{arith}
+use lib.Bits.{bitOr, or-shifted-r}
+use lib.ListN.{length, take, drop, set, length-map}
+use lib.Seq.{length-take-le, set-getD}
+use lib.Dec.{leb}
+use borrow.Author.Tests.{leb-true, lt-ltb, le-ltb}
+use Rattle.calendar.specs.Limits.{lastInstant, isTimeOfDay}
+use Rattle.calendar.specs.declared.Instant.{Instant}
+use Rattle.record.specs.Refusals.{mostValue}
+use Rattle.layout.specs.declared.Mark.the-variants.{TI}
+use Rattle.layout.specs.declared.Call.{Call}
+use Rattle.lock.specs.Locks.{bit, valueAt, boltAt}
+use Rattle.lock.proofs.Bools.{both, and-both}
+use Rattle.task.specs.State.{noTask}
+use Rattle.task.specs.Turns.{unmarked, triggerTurn}
+use Rattle.task.specs.declared.Task.{Task}
+use Rattle.task.specs.declared.Turn.{Turn}
+use Rattle.kernel.specs.Sets.{setOf}
+use Rattle.kernel.specs.State.{mostTasks, taskAt, enabledAt, withState}
+use Rattle.kernel.specs.Work.{noWork, turns, everyTurn}
+use Rattle.kernel.specs.Running.{runner}
+use Rattle.kernel.specs.Test.{isPriority, keptOk, holdOk, restOk, waitOk, scheduleOk, taskOk, allBelow, countsOk, nobodyServable, valid}
+use Rattle.kernel.specs.Refusals.{stateRefusalOf}
+use Rattle.kernel.specs.Calls.{trigger}
+use Rattle.kernel.specs.Step.{refuse, finish, orRefuse}
+use Rattle.kernel.specs.declared.Counts.{Counts}
+use Rattle.kernel.specs.declared.Kernel.{Kernel}
+use Rattle.kernel.specs.declared.Stepped.{Stepped}
+use Rattle.kernel.proofs.Below.{all-at, all-from}
+use Rattle.kernel.proofs.Facts.{TaskOk, task-test, task-untest}
+use Rattle.kernel.proofs.Passed.{tested}
+use Rattle.kernel.proofs.Works.{turn-at}
+use Rattle.kernel.proofs.Sets.{setOf-lt}
+use Rattle.engine.proofs.TestLaws.{wait-of}
+use Rattle.engine.specs.Inner.{putIf, marksOf, workHere, waitsOk}
+use Rattle.engine.specs.declared.serving.Marks.{Marks}
+
+-- ---- a set with one more place
+
+set-more : (bs : List Bool) (b : Bool) → setOf (bs ++ (b ∷ [])) ≡ bit b * 2 ^ length bs + setOf bs
+unfolding setOf
+set-more [] true = refl
+set-more [] false = refl
+set-more (x ∷ bs) true = rw (pow-suc 2 (length bs), set-more bs true) (omega arith)
+set-more (x ∷ bs) false = rw (set-more bs false) (omega arith)
+
+put-more : (bs : List Bool) (b : Bool) → putIf (length bs) b (setOf bs) ≡ setOf (bs ++ (b ∷ []))
+put-more bs true = rw set-more (ap (bitOr (setOf bs)) (sym (one-mul (2 ^ length bs))) ∙ or-shifted-r 1 (length bs) (setOf bs) (setOf-lt bs))
+put-more bs false = rw set-more (omega arith)
+
+-- ---- one more turn
+
+module _ (f : Task → Turn) where
+  -- The tasks, with the turns of the first i made.
+  unfoldable pub tasksAfter : ℕ → List Task → List Task
+  tasksAfter i ts = map (λ u. u .task) (turns i f ts) ++ drop i ts
+
+  -- The set of those of the first i whose turns say so.
+  unfoldable pub setAfter : (Turn → Bool) → ℕ → List Task → ℕ
+  setAfter g i ts = setOf (map g (turns i f ts))
+
+  after-at : (i : ℕ) (ts : List Task) → i < length ts → taskAt (tasksAfter i ts) i ≡ taskAt ts i
+  unfolding tasksAfter
+  after-at i [] h = absurd (not-suc-le-zero h)
+  after-at zero (t ∷ ts) h = refl
+  after-at (suc i) (t ∷ ts) h = after-at i ts (omega arith)
+
+  after-more : (i : ℕ) (ts : List Task) → i < length ts → set (tasksAfter i ts) i (f (taskAt ts i) .task) ≡ tasksAfter (suc i) ts
+  unfolding tasksAfter
+  after-more i [] h = absurd (not-suc-le-zero h)
+  after-more zero (t ∷ ts) h = refl
+  after-more (suc i) (t ∷ ts) h = ap (λ l. f t .task ∷ l) (after-more i ts (omega arith))
+
+  bits-more : (g : Turn → Bool) (i : ℕ) (ts : List Task) → i < length ts → map g (turns (suc i) f ts) ≡ map g (turns i f ts) ++ (g (f (taskAt ts i)) ∷ [])
+  bits-more g i [] h = absurd (not-suc-le-zero h)
+  bits-more g zero (t ∷ ts) h = refl
+  bits-more g (suc i) (t ∷ ts) h = ap (λ l. g (f t) ∷ l) (bits-more g i ts (omega arith))
+
+  bits-long : (g : Turn → Bool) (i : ℕ) (ts : List Task) → i < length ts → length (map g (turns i f ts)) ≡ i
+  bits-long g i ts h = length-map (turns i f ts) g ∙ length-map (take i ts) f ∙ length-take-le i ts (omega arith)
+
+  set-after-more : (g : Turn → Bool) (i : ℕ) (ts : List Task) → i < length ts → putIf i (g (f (taskAt ts i))) (setAfter g i ts) ≡ setAfter g (suc i) ts
+  unfolding setAfter
+  set-after-more g i ts h =
+      ap (λ (x : ℕ). putIf x (g (f (taskAt ts i))) (setOf (map g (turns i f ts)))) (sym (bits-long g i ts h))
+      ∙ put-more (map g (turns i f ts)) (g (f (taskAt ts i)))
+      ∙ ap setOf (sym (bits-more g i ts h))
+
+  abbrev pub marksAfter : ℕ → List Task → Marks
+  marksAfter i ts =
+      record {
+        due = setAfter (λ u. u .due) i ts;
+        started = setAfter (λ u. u .started) i ts;
+        ended = setAfter (λ u. u .ended) i ts;
+        lost = setAfter (λ u. u .lost) i ts;
+        granted = 0;
+      }
+
+-- The sets with the turn u of task i.
+abbrev pub withTurn : ℕ → Turn → Marks → Marks
+withTurn i u m =
+    record {
+      due = putIf i (u .due) (m .due);
+      started = putIf i (u .started) (m .started);
+      ended = putIf i (u .ended) (m .ended);
+      lost = putIf i (u .lost) (m .lost);
+      granted = m .granted;
+    }
+
+-- The turns f of the first i tasks of the kernel k have made the kernel `next` and the sets m.
+pub record Made (f : Task → Turn) (k : Kernel) (i : ℕ) (next : Kernel) (m : Marks) : Type 0 where
+  pub kernel : next ≡ withState (tasksAfter f i (k .tasks)) (k .locks) (k .enabled) k
+  pub marks : m ≡ marksAfter f i (k .tasks)
+
+module _ (f : Task → Turn) (k : Kernel) where
+  pub made-none : Made f k 0 k (record { due = 0; started = 0; ended = 0; lost = 0; granted = 0 })
+  unfolding tasksAfter setAfter setOf
+  made-none = record { kernel = refl; marks = refl }
+
+  pub made-all : {i : ℕ} {next : Kernel} {m : Marks} (n : Instant) → i ≡ k .counts .tasks → Made f k i next m
+      → (next ≡ withState (everyTurn k n f .tasks) (k .locks) (k .enabled) k) × (m ≡ marksOf (everyTurn k n f))
+  unfolding tasksAfter setAfter everyTurn
+  made-all n e h =
+      (h .kernel ∙ ap (λ (x : ℕ). withState (tasksAfter f x (k .tasks)) (k .locks) (k .enabled) k) e, h .marks ∙ ap (λ (x : ℕ). marksAfter f x (k .tasks)) e)
+
+  module _ (i : ℕ) (l : i < length (k .tasks)) {next : Kernel} {m : Marks} (h : Made f k i next m) where
+    task-now : taskAt (next .tasks) i ≡ taskAt (k .tasks) i
+    task-now = ap (λ (q : Kernel). taskAt (q .tasks) i) (h .kernel) ∙ after-at f i (k .tasks) l
+
+    made-turn : (u : Turn) → u ≡ f (taskAt (next .tasks) i)
+        → Made f k (i + 1) (withState (set (next .tasks) i (u .task)) (next .locks) (next .enabled) next) (withTurn i u m)
+    made-turn u e =
+        let v : u ≡ f (taskAt (k .tasks) i) = e ∙ ap f task-now in
+        rw (add-one, h .kernel, h .marks, v)
+        (record {
+          kernel = rw (after-more f i (k .tasks) l);
+          marks = rw (set-after-more f (λ u. u .due) i (k .tasks) l, set-after-more f (λ u. u .started) i (k .tasks) l, set-after-more f (λ u. u .ended) i (k .tasks) l, set-after-more f (λ u. u .lost) i (k .tasks) l);
+        })
+
+    module _ {next′ : Kernel} {m′ : Marks} where
+      -- Task i has its turn,
+      pub made-more : (u : Turn) → u ≡ f (taskAt (next .tasks) i)
+          → next′ ≡ withState (set (next .tasks) i (u .task)) (next .locks) (next .enabled) next → m′ ≡ withTurn i u m
+          → Made f k (i + 1) next′ m′
+      made-more u e a b = rw (a, b) (made-turn u e)
+
+      -- or is passed over, if it would change nothing.
+      pub made-still : f (taskAt (next .tasks) i) ≡ unmarked (taskAt (next .tasks) i) → next′ ≡ next → m′ ≡ m → Made f k (i + 1) next′ m′
+      made-still e a b =
+          let q = made-turn (unmarked (taskAt (next .tasks) i)) (sym e) in
+          record {
+            kernel = a ∙ ap (λ (ts : List Task). withState ts (next .locks) (next .enabled) next) (sym (set-getD (next .tasks) i noTask)) ∙ q .kernel;
+            marks = b ∙ q .marks;
+          }
+
+-- ---- what they leave of a kernel that passes the test
+
+abbrev pub withNow : Instant → Kernel → Kernel
+withNow n k =
+    record {
+      tasks = k .tasks;
+      locks = k .locks;
+      enabled = k .enabled;
+      counts = k .counts;
+      clock = k .clock;
+      now = n;
+      begun = k .begun;
+    }
+
+-- The kernel in which every task has had its turn, at instant n.
+abbrev pub everyDone : Kernel → Instant → (Task → Turn) → Kernel
+everyDone k n f = withNow n (withState (everyTurn k n f .tasks) (k .locks) (k .enabled) k)
+
+pub every-finish : (k : Kernel) (n : Instant) (f : Task → Turn) {next : Kernel} {m : Marks}
+    → next ≡ everyDone k n f → m ≡ marksOf (everyTurn k n f) → finish next (workHere next m) ≡ finish k (everyTurn k n f)
+unfolding finish everyTurn
+every-finish k n f a b = rw (a, b)
+
+module _ (day : ℕ) (k : Kernel) (v : valid day k ≡ true) where
+  parts : (k .now .0 ≤ lastInstant) × (countsOk (k .counts) ≡ true) × (allBelow (k .counts .tasks) (λ i. taskOk day (k .counts) (taskAt (k .tasks) i)) ≡ true)
+  unfolding valid
+  parts =
+      let n = k .counts in
+      let a = both _ (nobodyServable k) v in
+      let b = both _ (allBelow (n .tasks) (λ i. taskOk day n (taskAt (k .tasks) i))) (a .0) in
+      let c = both _ (allBelow (n .bolts) (λ b. leb (boltAt (k .locks) b .readers) mostValue)) (b .0) in
+      let d = both _ (allBelow (n .semaphores) (λ s. leb (valueAt (k .locks) s) mostValue)) (c .0) in
+      let f = both (leb (k .now .0) lastInstant && isTimeOfDay day (k .clock)) (countsOk n) (d .0) in
+      (leb-true _ _ (both (leb (k .now .0) lastInstant) (isTimeOfDay day (k .clock)) (f .0) .0), f .1, b .1)
+
+  pub now-in : k .now .0 ≤ lastInstant
+  now-in = parts .0
+
+  pub waits-in : waitsOk k ≡ true
+  unfolding waitsOk
+  waits-in =
+      and-both (parts .1)
+      (all-from (k .counts .tasks) _ (λ i l. wait-of day (k .counts) (taskAt (k .tasks) i) (all-at (k .counts .tasks) _ (parts .2) i l)))
+
+  -- Turns that keep the limits of a task keep the limits of the waits.
+  pub every-waits : length (k .tasks) ≡ mostTasks → (n : Instant) (f : Task → Turn)
+      → ((t : Task) → TaskOk day (k .counts) t → TaskOk day (k .counts) (f t .task))
+      → {next : Kernel} → next ≡ everyDone k n f → waitsOk next ≡ true
+  unfolding waitsOk everyTurn
+  every-waits long n f keeps a =
+      let room : k .counts .tasks ≤ length (k .tasks) = omega (arith, long, tested day k v .fits .tasks) in
+      rw a
+      (and-both (parts .1)
+      (all-from (k .counts .tasks) _
+      (λ i l. rw (turn-at (k .counts .tasks) f (k .tasks) room i l)
+      (wait-of day (k .counts) _ (task-test day (k .counts) _ (keeps (taskAt (k .tasks) i) (task-untest day (k .counts) (taskAt (k .tasks) i) (all-at (k .counts .tasks) _ (parts .2) i l))))))))
+
+-- ---- a tick at the last instant is refused
+
+pub tick-early : (k : Kernel) (c : Call) (s : Stepped) → k .now .0 < lastInstant → s ≡ orRefuse k (stateRefusalOf TI k c) s
+unfolding stateRefusalOf
+tick-early k c s l = rw (lt-ltb _ _ l)
+
+pub tick-late : (k : Kernel) (c : Call) (s : Stepped) → lastInstant ≤ k .now .0 → refuse k 15 (runner k) ≡ orRefuse k (stateRefusalOf TI k c) s
+unfolding stateRefusalOf
+tick-late k c s l = rw (le-ltb _ _ l)
+
+-- ---- a disabled interrupt changes nothing
+
+module _ (day : ℕ) (k : Kernel) (i : ℕ) where
+  pub trigger-on : enabledAt k i ≡ true → trigger day k i ≡ everyTurn k (k .now) (triggerTurn day (k .clock) (k .now) i)
+  unfolding trigger
+  trigger-on e = rw e
+
+  pub trigger-off : enabledAt k i ≡ false → trigger day k i ≡ noWork k
+  unfolding trigger
+  trigger-off e = rw e

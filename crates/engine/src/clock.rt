@@ -1,0 +1,132 @@
+// Calls that give every task its turn: TI and TG.
+ghost use mathlib.Core.Path.{_≡_};
+ghost use mathlib.Core.Bool.{true};
+ghost use Prim.Native.Nat.{_≤_, _<_};
+ghost use Rattle.calendar.specs.Limits.{day, lastInstant, mostInstant};
+ghost use Rattle.task.specs.Turns.{tickTurn, triggerTurn};
+ghost use Rattle.kernel.specs.State.{mostTasks, withState};
+ghost use Rattle.kernel.specs.Running.{runner};
+ghost use Rattle.kernel.specs.Test.{valid};
+ghost use Rattle.kernel.specs.Refusals.{stateRefusalOf};
+ghost use Rattle.kernel.specs.Work.{everyTurn};
+ghost use Rattle.kernel.specs.Calls.{tick, trigger};
+ghost use Rattle.kernel.specs.Step.{finish, orRefuse};
+ghost use Rattle.engine.specs.Inner.{putIf, marksOf, waitsOk};
+ghost use Rattle.layout.specs.declared.Mark.{Mark};
+ghost use Rattle.layout.specs.declared.Call.{Call};
+use crate::asking::done;
+use crate::asking::only_granted;
+use crate::declarations::answered;
+use crate::serving::Marks;
+use crate::serving::finished;
+use crate::sets::put_if;
+use calendar::Duration;
+use calendar::Instant;
+use calendar::LAST_INSTANT;
+use kernel::Kernel;
+use kernel::Running;
+use kernel::Stepped;
+use task::Turn;
+
+// A kernel at work, and the sets so far.
+pub struct Working {
+    pub kernel: Kernel,
+    pub marks: Marks,
+}
+
+// The sets with task i's turn in them.
+fn marked(m: Marks, i: usize, u: Turn) -> Marks
+    requires { ⌜ i < mostTasks ⌝ }
+    ensures { λ r. ⌜ r ≡ record { due = putIf i (u .due) (m .due); started = putIf i (u .started) (m .started); ended = putIf i (u .ended) (m .ended); lost = putIf i (u .lost) (m .lost); granted = m .granted } ⌝ }
+{
+    Marks {
+        due: put_if(i, u.due, m.due),
+        started: put_if(i, u.started, m.started),
+        ended: put_if(i, u.ended, m.ended),
+        lost: put_if(i, u.lost, m.lost),
+        granted: m.granted,
+    }
+}
+
+// Each declared task's turn at a tick to n.
+pub(crate) fn tick_all(k: Kernel, n: Instant) -> Working
+    requires { ⌜ k .counts .tasks ≤ mostTasks ⌝ }
+    requires { ⌜ n .0 ≤ mostInstant ⌝ }
+    ensures { λ r. ⌜ (r .kernel ≡ withState (everyTurn k n (tickTurn n) .tasks) (k .locks) (k .enabled) k) × (r .marks ≡ marksOf (everyTurn k n (tickTurn n))) ⌝ }
+{
+    let counts = k.counts;
+    let most = counts.tasks as usize;
+    let mut next = k;
+    let mut m = only_granted(0);
+    for i in 0..most {
+        let t = next.tasks[i];
+        if t.stirs_at(n) {
+            let u = t.tick(n);
+            let after = u.task;
+            next.tasks[i] = after;
+            m = marked(m, i, u);
+        }
+    }
+    Working {
+        kernel: next,
+        marks: m,
+    }
+}
+
+// Each declared task's turn at a trigger of the enabled interrupt.
+pub(crate) fn trigger_all(k: Kernel, interrupt: u8) -> Working
+    requires { ⌜ k .counts .tasks ≤ mostTasks ⌝ }
+    requires { ⌜ k .now .0 ≤ lastInstant ⌝ }
+    ensures { λ r. ⌜ (r .kernel ≡ withState (everyTurn k (k .now) (triggerTurn day (k .clock) (k .now) interrupt) .tasks) (k .locks) (k .enabled) k) × (r .marks ≡ marksOf (everyTurn k (k .now) (triggerTurn day (k .clock) (k .now) interrupt))) ⌝ }
+{
+    let counts = k.counts;
+    let most = counts.tasks as usize;
+    let mut next = k;
+    let n = k.now;
+    let clock = k.clock;
+    let mut m = only_granted(0);
+    for i in 0..most {
+        let t = next.tasks[i];
+        if t.listens_to(interrupt) {
+            let u = t.trigger(clock, n, interrupt);
+            let after = u.task;
+            next.tasks[i] = after;
+            m = marked(m, i, u);
+        }
+    }
+    Working {
+        kernel: next,
+        marks: m,
+    }
+}
+
+pub(crate) fn ticked(k: Kernel, r: Running) -> Stepped
+    requires { ⌜ valid day k ≡ true ⌝ }
+    requires { ⌜ r ≡ runner k ⌝ }
+    ensures { λ s. ⌜ ((c : Call) → s ≡ orRefuse k (stateRefusalOf Mark.TI k c) (finish k (tick k))) ⌝ }
+{
+    let now = k.now;
+    if LAST_INSTANT <= now.0 {
+        return answered(k, 15, r);
+    }
+    let n = now.plus(Duration(1));
+    let w = tick_all(k, n);
+    let m = w.marks;
+    let mut next = w.kernel;
+    next.now = n;
+    finished(next, m)
+}
+
+pub(crate) fn triggered(k: Kernel, i: u8) -> Stepped
+    requires { ⌜ valid day k ≡ true ⌝ }
+    requires { ⌜ i < k .counts .interrupts ⌝ }
+    ensures { λ s. ⌜ s ≡ finish k (trigger day k i) ⌝ }
+{
+    let at = i as usize;
+    if k.enabled[at] {
+        let w = trigger_all(k, i);
+        let m = w.marks;
+        return finished(w.kernel, m);
+    }
+    done(k)
+}
