@@ -11,3 +11,4 @@ pub mod RefusalLaws
 pub mod TurnCases
 pub mod AskLaws
 pub mod EveryTask
+pub mod CallLaws

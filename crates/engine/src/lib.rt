@@ -1,6 +1,6 @@
-// The kernel's code over the machine's state, function by function equal to the machine. The table of all marks
-// and the step follow.
+// The kernel's code over the machine's state, function by function equal to the machine, up to the step over bytes.
 pub mod asking;
+pub mod calls;
 pub mod check;
 pub mod clock;
 pub mod declarations;

@@ -1,0 +1,146 @@
+-- What a call or declaration that no formal ground refuses has passed, and what it comes to by its mark.
+use mathlib.Core.Path.{_≡_, refl, sym, ap, _∙_}
+use mathlib.Core.Bool.{true, false, _&&_}
+use mathlib.Core.List.{List, [], _∷_}
+use Prim.Native.Nat.{ℕ, zero, suc, _≤_, _<_, _%_}
+use lib.Dec.{leb, ltb}
+use lib.ListN.{take}
+use native.Mathlib.Omega.{arith}
+use borrow.Author.Tests.{leb-true, ltb-true, eqb-true}
+use Rattle.layout.specs.declared.Call.{Call}
+use Rattle.layout.specs.declared.Head.{Head}
+use Rattle.layout.specs.declared.Mark.{Mark}
+use Rattle.layout.specs.declared.Mark.the-variants.{DS, AC}
+use Rattle.layout.specs.declared.Form.the-variants.{Preset, Numbers, OneNumber}
+use Rattle.layout.specs.Marks.{form}
+use Rattle.record.specs.Lists.{distinct, names}
+use Rattle.record.specs.Reading.{callWith, opened}
+use Rattle.record.specs.declared.Read.the-variants.{Refused, Accepted}
+use Rattle.record.specs.declared.Reading.{Reading}
+use Rattle.record.specs.Refusals.{mostNumbers, mostValue, formedAs, formed, listed, ranged, uses, cleanNames, cleanStart, shape}
+use Rattle.record.proofs.OpenedLaws.{Opening, opens}
+use Rattle.record.proofs.OpenedLaws.Opening.{unsized, unmarked, marked}
+use Rattle.lock.proofs.Bools.{both}
+use Rattle.kernel.specs.Refusals.{declaredIn, roomFor, formalRefusal, stateRefusalOf, refusalOf}
+use Rattle.kernel.specs.Running.{runner}
+use Rattle.kernel.specs.Test.{valid}
+use Rattle.kernel.specs.Step.{refuse, declared, orRefuse, carryOut, carryOn, stepRead, step}
+use Rattle.kernel.specs.declared.Kernel.{Kernel}
+use Rattle.kernel.specs.declared.Running.{Running}
+use Rattle.kernel.specs.declared.Running.the-variants.{Idle}
+use Rattle.kernel.specs.declared.Stepped.{Stepped}
+use Rattle.kernel.proofs.Passed.{unless-passed, Formal, formal}
+use Rattle.engine.specs.Inner.{accordingly}
+use Rattle.engine.proofs.RefusalLaws.{shaped-short}
+
+distinct-one : (l : List ℕ) → distinct (take 1 l) ≡ true
+unfolding distinct names
+distinct-one [] = refl
+distinct-one (x ∷ l) = refl
+
+module _ (day : ℕ) (k : Kernel) (h : Head) (l : List ℕ) where
+  -- ---- what it comes to
+
+  abbrev pub By : Mark → Stepped
+  By m = orRefuse k (stateRefusalOf m k (callWith h l)) (carryOut day m k (callWith h l))
+
+  pub as-mark : {m : Mark} → h .mark ≡ m → By m ≡ accordingly day k (callWith h l)
+  unfolding accordingly
+  as-mark e = rw e
+
+  pub as-declared :
+      {m : Mark} {d e : Kernel} {r : Running} → h .mark ≡ m → r ≡ runner k → d ≡ e → declared k e ≡ By m
+      → refuse d 0 r ≡ accordingly day k (callWith h l)
+  unfolding refuse declared
+  as-declared o q s b = rw (q, s) (b ∙ as-mark o)
+
+  -- ---- what it has passed
+
+  module _ (f : formalRefusal day (k .counts) (k .begun) (callWith h l) ≡ 0) where
+    abbrev past : Formal day (k .counts) (k .begun) (callWith h l)
+    past = formal day (k .counts) (k .begun) (callWith h l) f
+
+    pub known : {m : Mark} → h .mark ≡ m → declaredIn m (k .counts) (callWith h l) ≡ true
+    known e = sym (ap (λ (m : Mark). declaredIn m (k .counts) (callWith h l)) e) ∙ past .known
+
+    pub room : {m : Mark} → h .mark ≡ m → roomFor m (k .counts) ≡ true
+    room e = rw e at (past .room)
+
+    short : h .len ≤ mostNumbers
+    short = shaped-short (callWith h l) (past .shaped)
+
+    shaped : (formed (callWith h l) ≡ true) × (listed (form (h .mark)) (callWith h l) ≡ true)
+    unfolding shape
+    shaped =
+        let a = unless-passed (formed (callWith h l)) 2 _ (past .shaped) in
+        (a .0, unless-passed (listed (form (h .mark)) (callWith h l)) 3 0 (a .1) .0)
+
+    -- The list's length and numbers.
+    abbrev Listed : Type 0
+    Listed = (1 ≤ h .len) × ((h .len ≤ mostNumbers) × (distinct (take (h .len) l) ≡ true))
+
+    pub list-some : {m : Mark} → h .mark ≡ m → form m ≡ Numbers → Listed
+    unfolding listed
+    list-some e g =
+        let a = both (leb 1 (h .len)) (distinct (take (h .len) l)) (rw (e, g) at (shaped .1)) in
+        (leb-true 1 (h .len) (a .0), (short, a .1))
+
+    pub list-one : {m : Mark} → h .mark ≡ m → form m ≡ OneNumber → Listed
+    unfolding listed
+    list-one e g =
+        let a = eqb-true (h .len) 1 (rw (e, g) at (shaped .1)) in
+        (omega (arith, a), (short, rw a (distinct-one l)))
+
+    preset-fits : h .mark ≡ DS → h .first ≤ mostValue
+    unfolding formed ranged
+    preset-fits e =
+        let g = sym (ap (λ (m : Mark). formedAs (form m) (callWith h l)) e) ∙ shaped .0 in
+        let b = both (cleanNames (uses Preset h) (callWith h l)) (cleanStart (uses Preset h) h && ranged Preset h) g .1 in
+        leb-true (h .first) mostValue (both (cleanStart (uses Preset h) h) (ranged Preset h) b .1)
+
+    pub preset-same : h .mark ≡ DS → h .first % 65536 ≡ h .first
+    preset-same e = let b = preset-fits e in omega (arith, b)
+
+    pub start-known : h .mark ≡ AC → h .number < k .counts .tasks
+    unfolding declaredIn
+    start-known e = ltb-true _ _ (both (ltb (h .number) (k .counts .tasks)) _ (known e) .0)
+
+-- ---- the step
+
+module _ (day : ℕ) (k : Kernel) where
+  pub refused-formally :
+      (c : Call) (n : ℕ) {r : Running} → n ≡ formalRefusal day (k .counts) (k .begun) c → (n ≡ 0 → ⊥) → r ≡ runner k
+      → refuse k n r ≡ carryOn day k c
+  unfolding carryOn refusalOf
+  refused-formally c zero e ne q = absurd (ne refl)
+  refused-formally c (suc n) e ne q = rw (← e, q)
+
+  pub passed-formally : (c : Call) → formalRefusal day (k .counts) (k .begun) c ≡ 0 → accordingly day k c ≡ carryOn day k c
+  unfolding accordingly carryOn refusalOf
+  passed-formally c e = rw e
+
+  module _ (s : List ℕ) where
+    pub read-nothing :
+        {r : Reading} {n : ℕ} {x : Running} → r ≡ opened s → r .answer ≡ Refused n → x ≡ runner k
+        → refuse k 2 x ≡ stepRead day k (opened s .answer) (opened s .list)
+    read-nothing {n = n} {x = x} o a q = by (opens s) where
+      by : Opening s → refuse k 2 x ≡ stepRead day k (opened s .answer) (opened s .list)
+      by (unsized ne e) = rw (e, q)
+      by (unmarked ne e) = rw (e, q)
+      by (marked m l j e) =
+          let z = sym a ∙ ap (λ (t : Reading). t .answer) (o ∙ e) in
+          let y : _≡_ {A = ℕ} 0 1 = cc in
+          absurd (omega arith)
+
+    pub read-call :
+        {r : Reading} {h : Head} → r ≡ opened s → r .answer ≡ Accepted h
+        → carryOn day k (callWith h (r .list)) ≡ stepRead day k (opened s .answer) (opened s .list)
+    read-call o a = rw (← o, a)
+
+    pub step-1 : valid day k ≡ false → refuse k 1 Idle ≡ step day k s
+    unfolding step
+    step-1 e = rw e
+
+    pub step-tested : valid day k ≡ true → stepRead day k (opened s .answer) (opened s .list) ≡ step day k s
+    unfolding step
+    step-tested e = rw e
