@@ -36,8 +36,8 @@ use Rattle.kernel.specs.declared.Stepped.{Stepped}
 use Rattle.kernel.proofs.Below.{all-at, all-from}
 use Rattle.kernel.proofs.Passed.{Fits, tested}
 use Rattle.kernel.proofs.Urgency.{Below, runner-below}
-use Rattle.engine.proofs.TestLaws.{wait-of}
-use Rattle.engine.specs.Inner.{waitsOk}
+use Rattle.survey.proofs.TestLaws.{wait-of}
+use Rattle.survey.specs.Looks.{waitsOk}
 
 -- ---- the test
 

@@ -38,8 +38,9 @@ use Rattle.kernel.proofs.Facts.{TaskOk, task-test, task-untest}
 use Rattle.kernel.proofs.Passed.{tested}
 use Rattle.kernel.proofs.Works.{turn-at}
 use Rattle.kernel.proofs.Sets.{setOf-lt}
-use Rattle.engine.proofs.TestLaws.{wait-of}
-use Rattle.engine.specs.Inner.{putIf, marksOf, workHere, waitsOk}
+use Rattle.survey.proofs.TestLaws.{wait-of}
+use Rattle.survey.specs.Looks.{putIf, waitsOk}
+use Rattle.engine.specs.Inner.{marksOf, workHere}
 use Rattle.engine.specs.declared.serving.Marks.{Marks}
 
 -- ---- a set with one more place

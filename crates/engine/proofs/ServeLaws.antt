@@ -1,17 +1,23 @@
 -- Serving turn by turn: each grant ends a wait, so as many turns as tasks wait are enough.
 use mathlib.Core.Path.{_≡_, refl, sym, _∙_}
-use mathlib.Core.Bool.{true}
+use mathlib.Core.Bool.{true, false}
+use mathlib.Core.List.{List}
 use Prim.Native.Nat.{ℕ, zero, suc, _+_, _≤_, _<_}
 use native.Mathlib.Omega.{arith}
+use Rattle.lock.specs.Locks.{waiting}
+use Rattle.lock.proofs.Bools.{byEq}
+use Rattle.task.specs.declared.Task.{Task}
 use Rattle.kernel.specs.Sets.{put}
+use Rattle.kernel.specs.State.{taskAt}
 use Rattle.kernel.specs.Granting.{servable}
 use Rattle.kernel.specs.Serving.{Served, nextServed, grantTo, serve}
 use Rattle.kernel.specs.declared.Kernel.{Kernel}
 use Rattle.kernel.specs.declared.Running.{Running}
 use Rattle.kernel.specs.declared.Running.the-variants.{Idle, Runs}
-use Rattle.kernel.proofs.Below.{mostUrgent-at}
+use Rattle.kernel.proofs.Below.{mostUrgent-at, mostUrgent-none}
 use Rattle.kernel.proofs.Serving.{waiters, waiters-le, grant-fewer}
 use Rattle.engine.specs.Inner.{served, withServed, servedOf}
+use Rattle.engine.proofs.WaitLaws.{servable-idle}
 
 pub next-right : (n : ℕ) (p : Served) (j : ℕ) → nextServed n p ≡ Runs j → (j < n) × (servable n (p .tasks) (p .locks) j ≡ true)
 next-right n p j e = mostUrgent-at n (servable n (p .tasks) (p .locks)) _ j e
@@ -52,3 +58,17 @@ unfolding servedOf grantTo
 served-grant k g j e =
     let n = k .counts .tasks in
     sym (serve-grant n n (served k g) j e) ∙ serve-more n n (served k g) (waiters-le n (k .tasks))
+
+-- ---- where nobody waits
+
+-- None of the first n tasks waits.
+abbrev pub NoneWaits : ℕ → List Task → Type 0
+NoneWaits n ts = (j : ℕ) → j < n → waiting (taskAt ts j .wait) ≡ false
+
+pub none-more : (n : ℕ) (ts : List Task) → NoneWaits n ts → waiting (taskAt ts n .wait) ≡ false → NoneWaits (n + 1) ts
+none-more n ts f e j l = byEq j n (λ q. rw q e) (λ q. f j (omega arith))
+
+-- Serving changes nothing.
+pub served-none : (k : Kernel) (g : ℕ) → NoneWaits (k .counts .tasks) (k .tasks) → servedOf k g ≡ served k g
+served-none k g f =
+    served-idle k g (mostUrgent-none (k .counts .tasks) _ _ (λ i l. servable-idle (k .counts .tasks) (k .tasks) (k .locks) i (f i l)))

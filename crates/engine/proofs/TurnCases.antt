@@ -40,8 +40,9 @@ use Rattle.kernel.specs.declared.Running.the-variants.{Idle, Runs}
 use Rattle.kernel.specs.declared.Stepped.{Stepped}
 use Rattle.kernel.proofs.Below.{all-at, all-from}
 use Rattle.kernel.proofs.Urgency.{runner-below}
-use Rattle.engine.specs.Inner.{waitsOk, workHere, accordingly}
-use Rattle.engine.proofs.TestLaws.{counts-fit, wait-of}
+use Rattle.survey.specs.Looks.{waitsOk}
+use Rattle.engine.specs.Inner.{workHere, accordingly}
+use Rattle.survey.proofs.TestLaws.{counts-fit, wait-of}
 
 -- ---- starts and ends by their kinds
 

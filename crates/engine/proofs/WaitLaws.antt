@@ -24,7 +24,8 @@ use Rattle.kernel.specs.declared.Counts.{Counts}
 use Rattle.kernel.specs.declared.Kernel.{Kernel}
 use Rattle.kernel.proofs.Below.{all-at, all-from}
 use Rattle.kernel.proofs.Serving.{grant-at, grant-other}
-use Rattle.engine.specs.Inner.{waitsOk, served, withServed}
+use Rattle.survey.specs.Looks.{waitsOk}
+use Rattle.engine.specs.Inner.{served, withServed}
 
 -- The list of a task that waits.
 pub record Listed (t : Task) : Type 0 where

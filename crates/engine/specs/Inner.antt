@@ -1,40 +1,19 @@
 -- Names for the contracts of inner functions. The machine doesn't use them.
-use mathlib.Core.Bool.{Bool, true, false, not, cond, _&&_, _||_}
-use Prim.Native.Nat.{ℕ, _%_}
-use lib.Dec.{leb, ltb}
+use mathlib.Core.Bool.{Bool, not, _&&_, _||_}
+use Prim.Native.Nat.{ℕ}
+use lib.Dec.{ltb}
 use Rattle.record.specs.Refusals.{onInterrupt}
 use Rattle.layout.specs.declared.Head.{Head}
 use Rattle.kernel.specs.declared.Counts.{Counts}
-use Rattle.kernel.specs.Sets.{put}
-use Rattle.kernel.specs.State.{mostTasks, taskAt, withState}
+use Rattle.kernel.specs.State.{withState}
 use Rattle.kernel.specs.Work.{Work}
 use Rattle.kernel.specs.Serving.{Served, serve}
-use Rattle.kernel.specs.Test.{allBelow, countsOk, waitOk}
 use Rattle.kernel.specs.declared.Kernel.{Kernel}
 use Rattle.engine.specs.declared.serving.Marks.{Marks}
 use Rattle.layout.specs.declared.Call.{Call}
 use Rattle.kernel.specs.declared.Stepped.{Stepped}
 use Rattle.kernel.specs.Refusals.{stateRefusal}
 use Rattle.kernel.specs.Step.{orRefuse, carryOut}
-use Rattle.kernel.specs.declared.Running.{Running}
-use Rattle.kernel.specs.declared.Running.the-variants.{Idle, Runs}
-
--- More than the urgency of any task: 32 * 255 + 31 is the largest.
-abbrev pub nobody : ℕ
-nobody = 8192
-
--- The task that an urgency is of, or none.
-unfoldable pub taskOf : ℕ → Running
-taskOf u = cond (leb nobody u) Idle (Runs (u % mostTasks))
-
--- The counts are in range, and each wait's list names one to four declared numbers, none twice.
-unfoldable pub waitsOk : Kernel → Bool
-waitsOk k = countsOk (k .counts) && allBelow (k .counts .tasks) (λ i. waitOk (k .counts) (taskAt (k .tasks) i))
-
--- The set n, and task i if b.
-abbrev pub putIf : ℕ → Bool → ℕ → ℕ
-putIf i true n = put i n
-putIf i false n = n
 
 -- What serving sees of a kernel, and the kernel that it leaves.
 abbrev pub served : Kernel → ℕ → Served

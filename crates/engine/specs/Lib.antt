@@ -1,2 +1,3 @@
 -- Names for the contracts of the code's inner functions.
 pub mod Inner
+pub mod Stirring

@@ -13,11 +13,10 @@ ghost use Rattle.kernel.specs.Refusals.{listDeclared, needsRunner, needsTaken};
 ghost use Rattle.kernel.specs.Work.{onlyLocks, noWork};
 ghost use Rattle.kernel.specs.Calls.{ask, giveBack, enable};
 ghost use Rattle.kernel.specs.Step.{finish, orRefuse};
-ghost use Rattle.engine.specs.Inner.{waitsOk};
+ghost use Rattle.survey.specs.Looks.{waitsOk};
 use crate::declarations::answered;
 use crate::serving::Marks;
 use crate::serving::finished;
-use crate::sets::only_task;
 use crate::turns::turn;
 use kernel::Kernel;
 use kernel::Running;
@@ -26,6 +25,7 @@ use layout::Head;
 use layout::Numbers;
 use lock::Locks;
 use lock::Wait;
+use survey::sets::only_task;
 use task::Turn;
 
 // Empty sets, but for those that are granted.

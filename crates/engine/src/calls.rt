@@ -2,17 +2,15 @@
 ghost use mathlib.Core.Path.{_≡_};
 ghost use mathlib.Core.Bool.{true};
 ghost use Rattle.calendar.specs.Limits.{day};
-ghost use Rattle.record.specs.Refusals.{shape};
-ghost use Rattle.record.specs.Reading.{callWith, opened};
+ghost use Rattle.record.specs.Reading.{callWith};
 ghost use Rattle.kernel.specs.Running.{runner};
 ghost use Rattle.kernel.specs.Test.{valid};
 ghost use Rattle.kernel.specs.Refusals.{formalRefusal};
-ghost use Rattle.kernel.specs.Step.{carryOn, stepRead, step};
+ghost use Rattle.kernel.specs.Step.{step};
 ghost use Rattle.engine.specs.Inner.{accordingly};
 use crate::asking::asked;
 use crate::asking::enabled_as;
 use crate::asking::given;
-use crate::check::is_valid;
 use crate::clock::ticked;
 use crate::clock::triggered;
 use crate::declarations::add_bolt;
@@ -21,8 +19,9 @@ use crate::declarations::add_semaphore;
 use crate::declarations::add_task;
 use crate::declarations::answered;
 use crate::declarations::set_clock;
+use crate::quiet::is_tick;
+use crate::quiet::quiet_tick;
 use crate::refusals::formal_refusal;
-use crate::scan::running;
 use crate::turns::activated;
 use crate::turns::continued;
 use crate::turns::ended;
@@ -30,6 +29,7 @@ use crate::turns::prevented;
 use crate::turns::resumed;
 use crate::turns::suspended;
 use crate::turns::terminated;
+use calendar::LAST_INSTANT;
 use kernel::Kernel;
 use kernel::Running;
 use kernel::Stepped;
@@ -40,6 +40,7 @@ use lock::Wait;
 use record::Read;
 use record::reader::open;
 use record::shape::shape_at;
+use survey::look::survey;
 
 // A call or declaration that no formal ground refuses: its state refusals, or what it does.
 fn carry_out(k: Kernel, h: Head, list: Numbers, r: Running) -> Stepped
@@ -77,43 +78,41 @@ fn carry_out(k: Kernel, h: Head, list: Numbers, r: Running) -> Stepped
     }
 }
 
-// A call or declaration that was read, on a kernel that passes the test; shaped is its number by shape.
-fn carry_on(k: Kernel, h: Head, list: Numbers, shaped: u8) -> Stepped
+// The step on a kernel that passes the test, r its running task.
+pub fn step_on(k: Kernel, s: &[u8], r: Running) -> Stepped
     requires { ⌜ valid day k ≡ true ⌝ }
-    requires { ⌜ shaped ≡ shape (callWith h list) ⌝ }
-    ensures { λ s. ⌜ s ≡ carryOn day k (callWith h list) ⌝ }
-{
-    let r = running(k);
-    let counts = k.counts;
-    let n = formal_refusal(counts, k.begun, shaped, h, list);
-    if n != 0 {
-        return answered(k, n, r);
-    }
-    carry_out(k, h, list, r)
-}
-
-// The step on bytes of any length, on a kernel that passes the test.
-fn step_on(k: Kernel, s: &[u8]) -> Stepped
-    requires { ⌜ valid day k ≡ true ⌝ }
-    ensures { λ r. ⌜ r ≡ stepRead day k (opened (now (s .entry)) .answer) (opened (now (s .entry)) .list) ⌝ }
+    requires { ⌜ r ≡ runner k ⌝ }
+    ensures { λ z. ⌜ z ≡ step day k (now (s .entry)) ⌝ }
 {
     let reading = open(s);
     let answer = reading.answer;
     let list = reading.list;
     let Read::Accepted(head) = answer else {
-        let r = running(k);
         return answered(k, 2, r);
     };
     let shaped = shape_at(s, head, list);
-    carry_on(k, head, list, shaped)
+    let counts = k.counts;
+    let n = formal_refusal(counts, k.begun, shaped, head, list);
+    if n != 0 {
+        return answered(k, n, r);
+    }
+    carry_out(k, head, list, r)
 }
 
-// The machine's step.
+// The machine's step. A tick that stirs nobody takes the short way.
 pub fn step(k: Kernel, s: &[u8]) -> Stepped
-    ensures { λ r. ⌜ r ≡ step day k (now (s .entry)) ⌝ }
+    ensures { λ z. ⌜ z ≡ step day k (now (s .entry)) ⌝ }
 {
-    if !is_valid(k) {
+    let v = survey(k);
+    let now = k.now;
+    let r = v.runner;
+    if !v.ok {
         return answered(k, 1, Running::Idle);
     }
-    step_on(k, s)
+    if !v.stirs & (now.0 < LAST_INSTANT) {
+        if is_tick(s) {
+            return quiet_tick(k, r);
+        }
+    }
+    step_on(k, s, r)
 }

@@ -11,7 +11,8 @@ ghost use Rattle.kernel.specs.Refusals.{stateRefusalOf};
 ghost use Rattle.kernel.specs.Work.{everyTurn};
 ghost use Rattle.kernel.specs.Calls.{tick, trigger};
 ghost use Rattle.kernel.specs.Step.{finish, orRefuse};
-ghost use Rattle.engine.specs.Inner.{putIf, marksOf, waitsOk};
+ghost use Rattle.survey.specs.Looks.{putIf, waitsOk};
+ghost use Rattle.engine.specs.Inner.{marksOf};
 ghost use Rattle.layout.specs.declared.Mark.{Mark};
 ghost use Rattle.layout.specs.declared.Call.{Call};
 use crate::asking::done;
@@ -19,13 +20,13 @@ use crate::asking::only_granted;
 use crate::declarations::answered;
 use crate::serving::Marks;
 use crate::serving::finished;
-use crate::sets::put_if;
 use calendar::Duration;
 use calendar::Instant;
 use calendar::LAST_INSTANT;
 use kernel::Kernel;
 use kernel::Running;
 use kernel::Stepped;
+use survey::sets::put_if;
 use task::Turn;
 
 // A kernel at work, and the sets so far.

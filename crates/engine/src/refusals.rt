@@ -7,14 +7,14 @@ ghost use Rattle.record.specs.Refusals.{mostNumbers, shape};
 ghost use Rattle.record.specs.Reading.{callWith};
 ghost use Rattle.kernel.specs.Refusals.{declares, declaredIn, roomFor, formalRefusal, listDeclared};
 ghost use Rattle.engine.specs.Inner.{startDeclared};
-use crate::check::are_below;
-use crate::check::count_of;
 use kernel::Counts;
 use layout::Head;
 use layout::Mark;
 use layout::Numbers;
 use lock::Wait;
 use record::times::times_of;
+use survey::check::are_below;
+use survey::check::count_of;
 
 pub(crate) fn is_declaration(mark: Mark) -> bool
     ensures { λ r. ⌜ r ≡ declares mark ⌝ }

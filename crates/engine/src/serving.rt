@@ -5,17 +5,21 @@ ghost use Prim.Native.Nat.{_<_};
 ghost use Rattle.kernel.specs.Granting.{servable};
 ghost use Rattle.kernel.specs.Serving.{nextServed, grantTo};
 ghost use Rattle.kernel.specs.Step.{finish};
-ghost use Rattle.engine.specs.Inner.{waitsOk, served, withServed, servedOf, workHere};
-use crate::scan::NOBODY;
-use crate::scan::running;
-use crate::scan::task_of;
-use crate::scan::urgency_of;
-use crate::sets::put_task;
+ghost use Rattle.survey.specs.Looks.{waitsOk};
+ghost use Rattle.engine.specs.Inner.{served, withServed, servedOf, workHere};
 use kernel::Answer;
 use kernel::Kernel;
 use kernel::Running;
 use kernel::Stepped;
 use lock::is_waiting;
+use survey::scan::NOBODY;
+use survey::scan::can_run;
+use survey::scan::nearest;
+use survey::scan::places;
+use survey::scan::running;
+use survey::scan::task_of;
+use survey::scan::urgency_of;
+use survey::sets::put_task;
 
 // The five sets of an answer.
 pub struct Marks {
@@ -105,8 +109,8 @@ fn serve(k: Kernel, granted: u32) -> Serviced
     }
 }
 
-// Every accepted call ends so. The kernel has had its work done, and the marks say what was done.
-pub(crate) fn finished(k: Kernel, m: Marks) -> Stepped
+// The end of a call after which some task waits: it may have to be served.
+fn finished_serving(k: Kernel, m: Marks) -> Stepped
     requires { ⌜ waitsOk k ≡ true ⌝ }
     ensures { λ r. ⌜ r ≡ finish k (workHere k m) ⌝ }
 {
@@ -125,6 +129,43 @@ pub(crate) fn finished(k: Kernel, m: Marks) -> Stepped
             ended: m.ended,
             lost: m.lost,
             granted,
+        },
+    }
+}
+
+// Every accepted call ends so. The kernel has had its work done, and the marks say what was done. Where nobody waits,
+// there is nobody to serve.
+pub(crate) fn finished(k: Kernel, m: Marks) -> Stepped
+    requires { ⌜ waitsOk k ≡ true ⌝ }
+    ensures { λ r. ⌜ r ≡ finish k (workHere k m) ⌝ }
+{
+    let counts = k.counts;
+    let n = places(counts.tasks);
+    let mut least = NOBODY;
+    let mut waits = false;
+    for i in 0..n {
+        let t = k.tasks[i];
+        let wait = t.wait;
+        let hold = t.hold;
+        let runs = can_run(k.tasks[i].alive, wait, hold);
+        waits = waits | is_waiting(wait);
+        least = nearest(least, runs, k.tasks[i].current, i);
+    }
+    if waits {
+        return finished_serving(k, m);
+    }
+    let mut next = k;
+    next.begun = true;
+    Stepped {
+        kernel: next,
+        answer: Answer {
+            number: 0,
+            running: task_of(least),
+            due: m.due,
+            started: m.started,
+            ended: m.ended,
+            lost: m.lost,
+            granted: m.granted,
         },
     }
 }

@@ -2,7 +2,7 @@
 use borrow.Author.Needs.{needs}
 use Rattle.kernel.specs.Work.{onlyLocks}
 use Rattle.kernel.specs.Step.{finish}
-use Rattle.engine.specs.Inner.{waitsOk}
+use Rattle.survey.specs.Looks.{waitsOk}
 use Rattle.engine.proofs.AskLaws.{interrupt-fits}
 use Rattle.engine.proofs.asking.enabled_as.Statement.{statement}
 use Rattle.engine.proofs.asking.enabled_as.Tie as tie

@@ -4,7 +4,8 @@ use mathlib.Core.Path.{ap, _∙_}
 use Rattle.kernel.specs.Work.{onlyLocks}
 use Rattle.kernel.specs.State.{withState}
 use Rattle.kernel.specs.Step.{finish}
-use Rattle.engine.specs.Inner.{waitsOk, workHere}
+use Rattle.survey.specs.Looks.{waitsOk}
+use Rattle.engine.specs.Inner.{workHere}
 use Rattle.engine.proofs.asking.with_locks.Statement.{statement}
 use Rattle.engine.proofs.asking.with_locks.Tie as tie
 

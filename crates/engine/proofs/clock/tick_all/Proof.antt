@@ -8,7 +8,7 @@ use native.Mathlib.Omega.{arith}
 use lib.ListN.{length}
 use Rattle.task.specs.Turns.{tickTurn}
 use Rattle.task.proofs.Laws.{still}
-use Rattle.engine.proofs.KernelFacts.{tasks-long}
+use Rattle.survey.proofs.KernelFacts.{tasks-long}
 use Rattle.engine.proofs.EveryTask.{Made, made-none, made-all, made-more, made-still}
 use Rattle.engine.proofs.clock.tick_all.Statement.{statement}
 use Rattle.engine.proofs.clock.tick_all.Tie as tie

@@ -12,7 +12,7 @@ use Rattle.kernel.specs.Step.{finish, refuse}
 use Rattle.kernel.specs.declared.Running.{Running}
 use Rattle.kernel.proofs.Passed.{tested}
 use Rattle.kernel.proofs.Turns.{good-tick}
-use Rattle.engine.proofs.KernelFacts.{tasks-long}
+use Rattle.survey.proofs.KernelFacts.{tasks-long}
 use Rattle.engine.proofs.EveryTask.{withNow, every-finish, every-waits, tick-early, tick-late}
 use Rattle.engine.proofs.clock.ticked.Statement.{statement}
 use Rattle.engine.proofs.clock.ticked.Tie as tie

@@ -7,7 +7,7 @@ use Rattle.kernel.specs.Invariants.{IsDay}
 use Rattle.kernel.specs.Step.{finish}
 use Rattle.kernel.proofs.Passed.{tested}
 use Rattle.kernel.proofs.Turns.{good-trigger}
-use Rattle.engine.proofs.KernelFacts.{tasks-long}
+use Rattle.survey.proofs.KernelFacts.{tasks-long}
 use Rattle.engine.proofs.EveryTask.{every-finish, every-waits, now-in, waits-in, trigger-on, trigger-off}
 use Rattle.engine.proofs.clock.triggered.Statement.{statement}
 use Rattle.engine.proofs.clock.triggered.Tie as tie

@@ -13,9 +13,9 @@ use Rattle.kernel.specs.State.{mostTasks, taskAt}
 use Rattle.kernel.specs.Granting.{servable}
 use Rattle.kernel.specs.Running.{urgency}
 use Rattle.kernel.specs.declared.Kernel.{Kernel}
-use Rattle.engine.specs.Inner.{taskOf}
-use Rattle.engine.proofs.KernelFacts.{Good, list-long}
-use Rattle.engine.proofs.LeastLaws.{leastOf, bounds, least-none, least-passed, least-taken, least-left, least-found}
+use Rattle.survey.specs.Looks.{taskOf}
+use Rattle.survey.proofs.KernelFacts.{Good, list-long}
+use Rattle.survey.proofs.LeastLaws.{leastOf, Bounded, bounds, least-none, least-passed, least-taken, least-left, least-found}
 use Rattle.engine.proofs.WaitLaws.{Listed, tasks-fit, listed, servable-idle, servable-as}
 use Rattle.engine.proofs.serving.next_served.Statement.{statement}
 use Rattle.engine.proofs.serving.next_served.Tie as tie
@@ -51,6 +51,9 @@ tOf c = taskAt (kOf c .tasks) (iOf c)
 
 good : (s : tie.Start Inv-loop μ-loop Inv-tasks μ-tasks) → Good (s .args .t1)
 good s = (s .good .0 .0, s .good .0 .1 .1)
+
+fits : (c : T) → Bounded (kOf c .tasks)
+fits c = bounds (kOf c) (good (c .before .before .before .before .before))
 
 placed : (c : T) → iOf c < mostTasks
 placed c = omega (arith, c .tasks-test .taken, tasks-fit (kOf c) (c .before .before .before .before .before .pre))
@@ -106,7 +109,7 @@ tasks-again : tie.Need-tasks-again Inv-loop μ-loop Inv-tasks μ-tasks
 tasks-again c =
     let d = c .before .before .before in
     let e = sym (c .before .is-waiting .ensures) ∙ not-true (c .before .is-waiting .result) (c .if1 .taken) in
-    (search needs, d .before .tasks .inv .1 ∙ sym (least-passed (canServe (kOf d)) (kOf d .tasks) (iOf d) (servable-idle _ (kOf d .tasks) (kOf d .locks) (iOf d) e)))
+    (search needs, d .before .tasks .inv .1 ∙ sym (least-passed (canServe (kOf d)) (kOf d .tasks) (iOf d) (fits d) (placed d) (servable-idle _ (kOf d .tasks) (kOf d .locks) (iOf d) e)))
 
 urgency-of-requires : tie.Need-urgency-of-requires Inv-loop μ-loop Inv-tasks μ-tasks
 urgency-of-requires c κs = placed (c .before .before .before)
@@ -122,7 +125,7 @@ unfolding urgency
 tasks-again-2 c =
     let d = c .before .before .before .before .before in
     let v = d .before .tasks .inv .1 in
-    (search needs, v ∙ sym (least-left (canServe (kOf d)) (kOf d .tasks) (iOf d) (bounds (kOf d) (good (d .before .before .before .before .before))) (placed d) (omega (arith, v, c .before .urgency-of .ensures, c .if2 .taken))))
+    (search needs, v ∙ sym (least-left (canServe (kOf d)) (kOf d .tasks) (iOf d) (fits d) (placed d) (omega (arith, v, c .before .urgency-of .ensures, c .if2 .taken))))
 
 cast-m : tie.Need-cast-m Inv-loop μ-loop Inv-tasks μ-tasks
 cast-m c = omega (arith, short c)
@@ -154,7 +157,7 @@ tasks-again-3 c =
     let l = c .before .before .before .before in
     let d = inP (l .before) in
     let e = servable-as _ (kOf d .tasks) (kOf d .locks) (iOf d) (waits (l .before)) ∙ sym (fails-here (l .loop .inv .1) (c .before .before .before .loop-test .taken) (c .before .is-free .ensures) (c .if3 .taken)) in
-    (omega (arith, d .tasks-test .taken, l .loop .inv .0), rw (l .loop .inv .0) (d .before .tasks .inv .1 ∙ sym (least-passed (canServe (kOf d)) (kOf d .tasks) (iOf d) e)))
+    (omega (arith, d .tasks-test .taken, l .loop .inv .0), rw (l .loop .inv .0) (d .before .tasks .inv .1 ∙ sym (least-passed (canServe (kOf d)) (kOf d .tasks) (iOf d) (fits d) (placed d) e)))
 
 add-j : tie.Need-add-j Inv-loop μ-loop Inv-tasks μ-tasks
 add-j c = omega (arith, short (c .before .before .before .before .before), c .before .before .before .loop-test .taken)
@@ -181,7 +184,7 @@ tasks-again-4 c =
     let l = c .before .loop in
     let e = servable-as _ (kOf d .tasks) (kOf d .locks) (iOf d) (waits p) ∙ sym (all-pass (l .inv .1) (c .loop-test .left)) in
     let u = p .before .urgency-of .ensures in
-    (omega (arith, d .tasks-test .taken, l .inv .0), rw (l .inv .0) (u ∙ sym (least-taken (canServe (kOf d)) (kOf d .tasks) (iOf d) e (omega (arith, d .before .tasks .inv .1, u, p .if2 .left)))))
+    (omega (arith, d .tasks-test .taken, l .inv .0), rw (l .inv .0) (u ∙ sym (least-taken (canServe (kOf d)) (kOf d .tasks) (iOf d) (fits d) (placed d) e (omega (arith, d .before .tasks .inv .1, u, p .if2 .left)))))
 
 task-of-requires : tie.Need-task-of-requires Inv-loop μ-loop Inv-tasks μ-tasks
 task-of-requires c κs = search needs

@@ -9,7 +9,8 @@ use Rattle.kernel.specs.Serving.{Served, nextServed}
 use Rattle.kernel.specs.declared.Kernel.{Kernel}
 use Rattle.kernel.specs.declared.Running.the-variants.{Runs}
 use Rattle.kernel.proofs.Serving.{waiters}
-use Rattle.engine.specs.Inner.{waitsOk, served, withServed, servedOf}
+use Rattle.survey.specs.Looks.{waitsOk}
+use Rattle.engine.specs.Inner.{served, withServed, servedOf}
 use Rattle.engine.proofs.WaitLaws.{tasks-fit, waits-kept}
 use Rattle.engine.proofs.ServeLaws.{next-right, next-fewer, served-idle, served-grant}
 use Rattle.engine.proofs.serving.serve.Statement.{statement}

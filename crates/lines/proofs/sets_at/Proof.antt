@@ -1,0 +1,70 @@
+-- Five texts and a line feed, one after the other.
+use borrow.Author.Needs.{needs}
+use mathlib.Core.Path.{_∙_}
+use native.Mathlib.Omega.{arith}
+use lib.ListN.{length-set}
+use Rattle.lines.specs.Lines.{lineFeed, setsText}
+use Rattle.lines.proofs.PlacedLaws.{byte-wrote, then}
+use Rattle.lines.proofs.sets_at.Statement.{statement}
+use Rattle.lines.proofs.sets_at.Tie as tie
+
+set-at-requires : tie.Need-set-at-requires
+set-at-requires c κs = search needs
+
+set-at-requires-2 : tie.Need-set-at-requires-2
+set-at-requires-2 c κs = search needs
+
+set-at-requires-3 : tie.Need-set-at-requires-3
+set-at-requires-3 c κs = search needs
+
+set-at-requires-4 : tie.Need-set-at-requires-4
+set-at-requires-4 c κs = search needs
+
+set-at-requires-5 : tie.Need-set-at-requires-5
+set-at-requires-5 c κs = search needs
+
+slice-write-out : tie.Need-slice-write-out
+slice-write-out c = search needs
+
+add-result : tie.Need-add-result
+add-result c = search needs
+
+same-length : tie.Need-same-length
+same-length c =
+    let g = c .before .before in
+    let l = g .before .before .before .before in
+    let e = l .before .before .before .before in
+    let s = e .before .before .before .before in
+    let d = s .before .before .before .before in
+    simp length-set
+    (g .set-at5 .kept .1 .0 ∙ l .set-at4 .kept .1 .0 ∙ e .set-at3 .kept .1 .0 ∙ s .set-at2 .kept .1 .0 ∙ d .set-at .kept .1 .0)
+
+returns : tie.Need-returns
+unfolding setsText
+returns c =
+    let g = c .before .before in
+    let l = g .before .before .before .before in
+    let e = l .before .before .before .before in
+    let s = e .before .before .before .before in
+    let d = s .before .before .before .before in
+    let due = d .set-at .ensures .0 in
+    let started = then due (s .set-at2 .ensures .0) (omega arith) in
+    let ended = then started (e .set-at3 .ensures .0) (omega arith) in
+    let lost = then ended (l .set-at4 .ensures .0) (omega arith) in
+    let granted = then lost (g .set-at5 .ensures .0) (omega arith) in
+    let feed = byte-wrote (g .set-at5 .last .1 .0) (g .set-at5 .result) lineFeed (slice-write-out c) in
+    (then granted feed (omega arith), omega arith)
+
+pub sets-at-spec : {M : Type 1} → statement M
+sets-at-spec =
+    tie.close
+    (tie.spec
+    set-at-requires
+    set-at-requires-2
+    set-at-requires-3
+    set-at-requires-4
+    set-at-requires-5
+    slice-write-out
+    add-result
+    same-length
+    returns)

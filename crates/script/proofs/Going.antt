@@ -1,0 +1,197 @@
+-- What holds at the head of the script's loop, and what a turn makes of it.
+use mathlib.Core.Path.{_≡_, refl, sym, _∙_}
+use mathlib.Core.Bool.{Bool, true, false, _&&_}
+use mathlib.Core.List.{List, [], _++_, append-nil}
+use Prim.Native.Nat.{ℕ, _+_, _-_, _≤_, _<_, min}
+use native.Mathlib.Omega.{arith}
+use lib.Dec.{leb, ltb}
+use lib.ListN.{length, take, drop, length-take, List·getD-eq-default}
+use lib.Seq.{getD-take, getD-drop}
+use borrow.Author.Tests.{leb-true, leb-false, ltb-true, ltb-false}
+use Rattle.calendar.specs.Limits.{day, lastInstant}
+use Rattle.calendar.specs.Times.{duration, plus}
+use Rattle.layout.specs.Fields.{recordLength, Octets}
+use Rattle.kernel.specs.Invariants.{IsDay, Tables}
+use Rattle.kernel.specs.Running.{runner}
+use Rattle.kernel.specs.State.{mostTasks, begunAt}
+use Rattle.kernel.specs.Step.{plainAnswer, step}
+use Rattle.kernel.specs.Test.{valid}
+use Rattle.kernel.specs.declared.Kernel.{Kernel}
+use Rattle.kernel.specs.declared.Running.{Running}
+use Rattle.kernel.specs.declared.Running.the-variants.{Idle}
+use Rattle.kernel.specs.declared.Stepped.{Stepped}
+use Rattle.kernel.proofs.Quiet.{quiet-step, still-valid}
+use Rattle.kernel.proofs.Invariants.{step-passes}
+use Rattle.kernel.proofs.Facts.{KernelOk, ok-of-passes}
+use Rattle.kernel.proofs.Answers.{answers-runner}
+use Rattle.kernel.proofs.Refused.{untested-refused}
+use Rattle.lines.specs.Buffers.{placed, Wrote}
+use Rattle.lines.specs.Lines.{line, longestLine}
+use Rattle.lines.proofs.PlacedLaws.{then}
+use Rattle.lock.proofs.Bools.{byBool, both}
+use Rattle.engine.specs.Stirring.{isTick, QuietBefore}
+use Rattle.script.specs.Records.{records}
+use Rattle.script.specs.Printed.{shown, printed}
+use Rattle.script.specs.Script.{afterText, carried, some, Tells}
+use Rattle.script.proofs.RecordLaws.{record-at, records-over}
+use Rattle.script.proofs.CarryLaws.{carried-none, carried-stop, carried-go, after-after}
+use Rattle.engine.proofs.StirLaws.{tick-bytes}
+use Rattle.script.proofs.PrintLaws.{says, says-line}
+
+isDay : IsDay day
+isDay = record { some = omega arith; room = omega arith }
+
+-- The bytes from at up to to.
+abbrev pub part : List ℕ → ℕ → ℕ → List ℕ
+part s at to = take (to - at) (drop at s)
+
+octets-part : (s : List ℕ) (at to : ℕ) → Octets s → Octets (part s at to)
+octets-part s at to o i =
+    byBool (ltb i (to - at))
+    (λ e. rw (getD-take (to - at) (drop at s) i 0 (ltb-true _ _ e), getD-drop at s i 0) (o (at + i)))
+    (λ e.
+    rw (List·getD-eq-default (take (to - at) (drop at s)) 0 {n = i} (omega (arith, length-take (to - at) (drop at s), ltb-false i (to - at) e)))
+    (omega arith))
+
+-- The text so far, and what is carried on from here gives the whole.
+pub record Going (script before : List ℕ) (start : Kernel) (ok : Bool) (buffer : List ℕ) (k : Kernel) (r : Running) (quiet at fill : ℕ) : Type 0 where
+  pub text : List ℕ
+  pub wrote : Wrote before 0 text buffer fill
+  pub room : fill ≤ length before
+  pub long : length buffer ≡ length before
+  pub within : at ≤ length script
+  pub octets : Octets script
+  pub tables : Tables k
+  pub tested : ok ≡ valid day k
+  pub runs : ok ≡ true → r ≡ runner k
+  pub still : QuietBefore quiet k
+  pub rest : carried day start (records script) (length before) ≡ afterText text (carried day k (records (drop at script)) (length before - fill))
+
+-- The loop's test: there is a next record, and room for a longest line.
+abbrev pub goes : List ℕ → List ℕ → ℕ → ℕ → Bool
+goes script buffer at fill = ltb at (length script) && leb longestLine (length buffer - fill)
+
+module _ {script before : List ℕ} {start : Kernel} {ok : Bool} {buffer : List ℕ} {k : Kernel} {r : Running} {quiet at fill : ℕ}
+    (g : Going script before start ok buffer k r quiet at fill) where
+  pub good : ok ≡ true → valid day k ≡ true
+  good o = sym (g .tested) ∙ o
+
+  ok-of : ok ≡ true → KernelOk day k
+  ok-of o = ok-of-passes day k (record { tables = g .tables; tested = good o })
+
+  pub early : ok ≡ true → k .now .0 ≤ lastInstant
+  early o = ok-of o .now-ok
+
+  pub few : ok ≡ true → k .counts .tasks ≤ mostTasks
+  few o = ok-of o .counts-ok .tasks
+
+  -- What is left has no room, or there is nothing left.
+  told : (full : Bool) → carried day k (records (drop at script)) (length before - fill) ≡ record { kernel = k; text = []; left = records (drop at script) }
+      → full ≡ some (records (drop at script))
+      → Tells (carried day start (records script) (length before)) script before buffer
+      (record { rack = record { kernel = k }; read = at; written = fill; full = full })
+  told full e f =
+      let w : carried day start (records script) (length before) ≡ record { kernel = k; text = g .text; left = records (drop at script) } =
+      g .rest ∙ rw (e, append-nil (g .text)) in
+      rw w (record { kernel = refl; text = g .wrote; within = g .within; rest = refl; full = f })
+
+  pub ahead : goes script buffer at fill ≡ true → at < length script
+  ahead e = ltb-true at (length script) (both (ltb at (length script)) (leb longestLine (length buffer - fill)) e .0)
+
+  pub fits : goes script buffer at fill ≡ true → fill + longestLine ≤ length buffer
+  fits e =
+      let l = leb-true longestLine (length buffer - fill) (both (ltb at (length script)) (leb longestLine (length buffer - fill)) e .1) in
+      omega (arith, g .room, g .long)
+
+  -- After it, what is left decides whether it is full.
+  pub stopped : goes script buffer at fill ≡ false
+      → Tells (carried day start (records script) (length before)) script before buffer
+      (record { rack = record { kernel = k }; read = at; written = fill; full = ltb at (length script) })
+  stopped e =
+      byBool (ltb at (length script))
+      (λ h.
+      let i = record-at script at (min (at + recordLength) (length script)) (ltb-true at (length script) h) refl in
+      let l = leb-false longestLine (length buffer - fill) (rw h at e) in
+      told (ltb at (length script)) (rw i (carried-stop day k _ _ (length before - fill) (omega (arith, g .long)))) (rw (h, i)))
+      (λ h.
+      let i = records-over script at (ltb-false at (length script) h) in
+      told (ltb at (length script)) (rw i (carried-none day k (length before - fill))) (rw (h, i)))
+
+  module _ (to : ℕ) (on : goes script buffer at fill ≡ true) (e : to ≡ min (at + recordLength) (length script))
+      {buffer′ : List ℕ} {fill′ : ℕ} where
+    -- One record more, with the machine's step z on it and z's line.
+    turned : {r′ : Running} {quiet′ : ℕ} (z : Stepped) → z ≡ step day k (part script at to)
+        → Wrote buffer fill (shown (says z) (z .answer)) buffer′ fill′ → fill′ ≤ fill + longestLine → length buffer′ ≡ length buffer
+        → Tables (z .kernel) → ok ≡ valid day (z .kernel) → (ok ≡ true → r′ ≡ runner (z .kernel)) → QuietBefore quiet′ (z .kernel)
+        → Going script before start ok buffer′ (z .kernel) r′ quiet′ to fill′
+    turned z m w n b s v u q =
+        let t : List ℕ = shown (says z) (z .answer) in
+        let p : printed (part script at to) (step day k (part script at to) .answer) ≡ t = unfold printed in rw (says-line day k (part script at to), ← m) in
+        let d : length before - fill - length t ≡ length before - fill′ = omega (arith, w .place) in
+        record {
+          text = g .text ++ t;
+          wrote = then (g .wrote) w (g .room);
+          room = omega (arith, g .long, fits on);
+          long = b ∙ g .long;
+          within = omega arith;
+          octets = g .octets;
+          tables = s;
+          tested = v;
+          runs = u;
+          still = q;
+          rest =
+              g .rest
+              ∙ rw (record-at script at to (ahead on) e, carried-go day k (part script at to) (records (drop to script)) (length before - fill) (omega (arith, g .long, fits on)), p, ← m, d)
+              (after-after (g .text) t _);
+        }
+
+    -- A kernel that fails the test is refused, and stays.
+    pub refused : ok ≡ false → Wrote buffer fill (line (plainAnswer 1 Idle)) buffer′ fill′ → fill′ ≤ fill + longestLine → length buffer′ ≡ length buffer
+        → Going script before start ok buffer′ k r quiet to fill′
+    refused o w n b =
+        turned (record { kernel = k; answer = plainAnswer 1 Idle }) (sym (untested-refused day k (part script at to) (sym (g .tested) ∙ o))) w n b (g .tables) (g .tested)
+        (g .runs) (g .still)
+
+    module _ (o : ok ≡ true) where
+      -- Before the next instant that may stir a task, a tick only moves the present.
+      pub moved : (q : ℕ) → QuietBefore q k → isTick (part script at to) ≡ true → k .now .0 < lastInstant → k .now .0 + 1 < q
+          → Wrote buffer fill (line (plainAnswer 0 r)) buffer′ fill′ → fill′ ≤ fill + longestLine → length buffer′ ≡ length buffer
+          → Going script before start ok buffer′ (begunAt (plus (k .now) (duration 1)) k) r q to fill′
+      moved q s t i j w n b =
+          let z : Stepped = record { kernel = begunAt (plus (k .now) (duration 1)) k; answer = plainAnswer 0 r } in
+          let m : z ≡ step day k (part script at to) =
+          rw (tick-bytes (part script at to) t, g .runs o)
+          (sym (quiet-step day k (g .tables .tasks) (good o) (λ c l x a b. s c l x a (omega arith)) i)) in
+          let v : valid day (z .kernel) ≡ true = still-valid day k (plus (k .now) (duration 1)) (omega arith) (omega arith) (good o) in
+          turned z m w n b
+          (record { tasks = g .tables .tasks; semaphores = g .tables .semaphores; bolts = g .tables .bolts; enabled = g .tables .enabled })
+          (o ∙ sym v) (g .runs) (λ c l x a b. s c l x (omega arith) b)
+
+      -- Any other record.
+      pub stepped : (z : Stepped) → z ≡ step day k (part script at to)
+          → Wrote buffer fill (shown (says z) (z .answer)) buffer′ fill′ → fill′ ≤ fill + longestLine → length buffer′ ≡ length buffer
+          → Going script before start ok buffer′ (z .kernel) (z .answer .running) 0 to fill′
+      stepped z m w n b =
+          let p = step-passes day isDay k (record { tables = g .tables; tested = good o }) (part script at to) (octets-part script at to (g .octets)) in
+          turned z m w n b (rw m (p .tables)) (o ∙ sym (rw m (p .tested))) (λ _. rw m (answers-runner day k (part script at to) (good o)))
+          (λ c l x a b. absurd (omega arith))
+
+-- Where the loop begins.
+pub started : (script before : List ℕ) (k : Kernel) (ok : Bool) (r : Running) → Octets script → Tables k → ok ≡ valid day k → (valid day k ≡ true → r ≡ runner k)
+    → Going script before k ok before k r 0 0 0
+unfolding placed
+started script before k ok r o t v u =
+    let d : length before - 0 ≡ length before = omega arith in
+    record {
+      text = [];
+      wrote = record { place = refl; buffer = refl };
+      room = omega arith;
+      long = refl;
+      within = omega arith;
+      octets = o;
+      tables = t;
+      tested = v;
+      runs = λ e. u (sym v ∙ e);
+      still = λ c l x a b. absurd (omega arith);
+      rest = rw d;
+    }

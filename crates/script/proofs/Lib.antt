@@ -1,0 +1,10 @@
+-- Laws of scripts.
+pub mod BufferLaws
+pub mod RecordLaws
+pub mod CarryLaws
+pub mod PrintLaws
+pub mod OwnedTables
+pub mod Going
+-- Proofs of the promises.
+pub mod AnswerLaws
+pub mod PromiseProofs

@@ -1,0 +1,79 @@
+-- What is carried on is the machine's log and last kernel, as far as the room reaches.
+use mathlib.Core.Path.{refl, ap}
+use mathlib.Core.Bool.{Bool, true, false, not}
+use mathlib.Core.List.{List, [], _∷_, _++_}
+use Prim.Native.Nat.{ℕ, _-_, _≤_, _<_}
+use native.Mathlib.Omega.{arith}
+use lib.Dec.{ltb}
+use lib.ListN.{length, length-append}
+use borrow.Author.Tests.{ltb-true, ltb-false}
+use Rattle.kernel.specs.Log.{final, log}
+use Rattle.kernel.specs.Step.{step}
+use Rattle.kernel.specs.declared.Answer.{Answer}
+use Rattle.kernel.specs.declared.Kernel.{Kernel}
+use Rattle.lines.specs.Lines.{line, longestLine}
+use Rattle.lines.proofs.LineLaws.{no-line-longer}
+use Rattle.lock.proofs.Bools.{byBool, contra}
+use Rattle.script.specs.Printed.{shown, silent, printed, lines}
+use Rattle.script.specs.Script.{Carried, afterText, carried}
+use Rattle.script.specs.Promises.{Carries, ScriptsCarried}
+use Rattle.script.proofs.AnswerLaws.{answer-in-types}
+use Rattle.script.proofs.CarryLaws.{carried-none, carried-stop, carried-go}
+
+shown-le : (b : Bool) (a : Answer) → length (line a) ≤ longestLine → length (shown b a) ≤ longestLine
+shown-le true a h = h
+shown-le false a h = omega arith
+
+-- A record's text is never longer than the longest line.
+pub printed-le : (day : ℕ) (k : Kernel) (r : List ℕ) → length (printed r (step day k r .answer)) ≤ longestLine
+unfolding printed
+printed-le day k r = shown-le (not (silent r (step day k r .answer))) _ (no-line-longer _ (answer-in-types day k r))
+
+none-done : (day : ℕ) (k : Kernel) (room : ℕ) → Carries day k [] room (record { kernel = k; text = []; left = [] })
+unfolding lines log final
+none-done day k room =
+    record {
+      done = [];
+      split = refl;
+      text = refl;
+      kernel = refl;
+      full = λ e. contra e refl;
+      all = λ h. refl;
+    }
+
+stop-done : (day : ℕ) (k : Kernel) (r : List ℕ) (rs : List (List ℕ)) (room : ℕ) → room < longestLine
+    → Carries day k (r ∷ rs) room (record { kernel = k; text = []; left = r ∷ rs })
+unfolding lines log final
+stop-done day k r rs room h =
+    record {
+      done = [];
+      split = refl;
+      text = refl;
+      kernel = refl;
+      full = λ e. omega arith;
+      all = λ l. absurd (omega arith);
+    }
+
+more-done : (day : ℕ) (k : Kernel) (r : List ℕ) (rs : List (List ℕ)) (room : ℕ) (c : Carried) → longestLine ≤ room
+    → Carries day (step day k r .kernel) rs (room - length (printed r (step day k r .answer))) c
+    → Carries day k (r ∷ rs) room (afterText (printed r (step day k r .answer)) c)
+unfolding lines log final
+more-done day k r rs room c h g =
+    let t = printed r (step day k r .answer) in
+    record {
+      done = r ∷ g .done;
+      split = ap (λ (l : List (List ℕ)). r ∷ l) (g .split);
+      text = ap (λ (l : List ℕ). t ++ l) (g .text);
+      kernel = g .kernel;
+      full = λ e. omega (arith, g .full e, length-append t (c .text));
+      all = λ l. g .all (omega (arith, printed-le day k r));
+    }
+
+pub scripts-carried : ScriptsCarried
+scripts-carried day k [] room = rw (carried-none day k room) (none-done day k room)
+scripts-carried day k (r ∷ rs) room =
+    byBool (ltb room longestLine)
+    (λ e. let h = ltb-true room longestLine e in rw (carried-stop day k r rs room h) (stop-done day k r rs room h))
+    (λ e.
+    let h = ltb-false room longestLine e in
+    rw (carried-go day k r rs room h) (more-done day k r rs room _ h (scripts-carried day (step day k r .kernel) rs _)))

@@ -1,0 +1,205 @@
+-- What is carried on stays the same, and the text grows by each record's line.
+use borrow.Author.Needs.{needs}
+use borrow.Author.Tests.{not-true, not-false, ltb-true}
+use mathlib.Core.Path.{_≡_, sym, _∙_, subst}
+use mathlib.Core.Bool.{true}
+use mathlib.Core.Logic.{⊎-elim}
+use Prim.Native.Nat.{ℕ, _+_, _-_, _≤_, _<_}
+use native.Mathlib.Omega.{arith}
+use lib.ListN.{length}
+use Rattle.kernel.specs.declared.Kernel.{Kernel}
+use Rattle.lines.specs.Lines.{longestLine}
+use Rattle.lock.proofs.Bools.{both}
+use Rattle.calendar.specs.Limits.{day}
+use Rattle.engine.proofs.StirLaws.{said-ok, said-runner, quiet-until-then}
+use Rattle.engine.specs.Stirring.{QuietBefore}
+use Rattle.script.proofs.OwnedTables.{tables-long}
+use Rattle.script.proofs.Going.{Going, good, early, few, ahead, fits, started, stopped, refused, moved, stepped}
+use Rattle.script.proofs.run.run.Statement.{statement}
+use Rattle.script.proofs.run.run.Tie as tie
+
+abbrev Inv-loop : tie.InvT-loop
+Inv-loop s out₀ k₀ v r₀ quiet₀ at₀ fill₀ out k r quiet at fill = Going s out₀ k₀ (v .ok) out k r quiet at fill
+
+abbrev μ-loop : tie.MeasureT-loop
+μ-loop s out₀ k₀ v r₀ quiet₀ at₀ fill₀ out k r quiet at fill = length s - at
+
+-- Where a record's end is known.
+abbrev N : Type 0
+N = tie.After-end-of Inv-loop μ-loop
+
+-- Where the kernel passes the test, and once nothing comes before quiet.
+abbrev E : Type 0
+E = tie.Else1 Inv-loop μ-loop
+
+abbrev J : Type 0
+J = tie.Joined2 Inv-loop μ-loop
+
+abbrev nOf : E → N
+nOf c = c .before .before .before
+
+abbrev eOf : J → E
+eOf c = c .before .before .before .before
+
+abbrev kOf : J → Kernel
+kOf c = nOf (eOf c) .before .before .loop .k
+
+passes : (c : E) → nOf c .before .before .before .survey .result .ok ≡ true
+passes c = not-false _ (c .if1 .left)
+
+quiet-as : (c : J) {q : ℕ} → c .if2 .quiet ≡ q → QuietBefore q (kOf c) → QuietBefore (c .if2 .quiet) (kOf c)
+quiet-as c e = subst (λ (q : ℕ). QuietBefore q (kOf c)) (sym e)
+
+quietly : (c : J) → QuietBefore (c .if2 .quiet) (kOf c)
+quietly c =
+    ⊎-elim (λ w. quiet-as c (w .2 ∙ w .1 .ensures) (quiet-until-then (kOf c))) (λ w. quiet-as c (w .1) (nOf (eOf c) .before .before .loop .inv .still)) (c .if2 .came)
+
+survey-requires : tie.Need-survey-requires Inv-loop μ-loop
+survey-requires c κs = search needs
+
+loop-holds : tie.Need-loop-holds Inv-loop μ-loop
+loop-holds c =
+    let s = c .before .before .before .before in
+    let a = s .args in
+    let o = s .good .0 .1 .1 .0 in
+    started (a .s .now) (a .out .now) (a .rack .kernel) (c .survey .result .ok) (c .survey .result .runner)
+    (λ i. c .before .before .before .shared-slice-known .given i .fits) (tables-long (a .rack .kernel) (o .0, o .1 .1))
+    (said-ok day (a .rack .kernel) (c .survey .ensures)) (said-runner day (a .rack .kernel) (c .survey .ensures))
+
+sub-loop : tie.Need-sub-loop Inv-loop μ-loop
+sub-loop c = omega (arith, c .loop .inv .room, c .loop .inv .long)
+
+end-of-requires : tie.Need-end-of-requires Inv-loop μ-loop
+end-of-requires c κs = c .before .loop .inv .within
+
+sub-rec : tie.Need-sub-rec Inv-loop μ-loop
+sub-rec c = omega arith
+
+part-rec-start : tie.Need-part-rec-start Inv-loop μ-loop
+part-rec-start c = omega arith
+
+part-rec-end : tie.Need-part-rec-end Inv-loop μ-loop
+part-rec-end c = omega arith
+
+plain-requires : tie.Need-plain-requires Inv-loop μ-loop
+plain-requires c κs = search needs
+
+-- Room and measure, where a record's end is known.
+room : (c : N) → c .before .before .loop .fill + longestLine ≤ length (c .before .before .loop .out)
+room c = fits (c .before .before .loop .inv) (c .before .loop-test .taken)
+
+less : (c : N) → length (c .before .before .before .before .before .before .before .args .s .now) - c .end-of .result
+    < length (c .before .before .before .before .before .before .before .args .s .now) - c .before .before .loop .at
+less c = omega (arith, ahead (c .before .before .loop .inv) (c .before .loop-test .taken))
+
+line-at-requires : tie.Need-line-at-requires Inv-loop μ-loop
+line-at-requires c κs = room (c .before .before .before .before .before)
+
+loop-less : tie.Need-loop-less Inv-loop μ-loop
+loop-less c = less (c .before .before .before .before .before .before .before .before)
+
+loop-again : tie.Need-loop-again Inv-loop μ-loop
+loop-again c =
+    let a = c .before .before in
+    let p = a .before .before in
+    let n = p .before .before .before .before in
+    refused (n .before .before .loop .inv) (n .end-of .result) (n .before .loop-test .taken) (n .end-of .ensures)
+    (not-true _ (p .before .if1 .taken)) (rw (p .plain .ensures) at (a .line-at .ensures .0)) (a .line-at .ensures .1) (a .line-at .kept .1 .0)
+
+is-tick-requires : tie.Need-is-tick-requires Inv-loop μ-loop
+is-tick-requires c κs = search needs
+
+add-if2 : tie.Need-add-if2 Inv-loop μ-loop
+add-if2 c = let e = c .before .before .before in omega (arith, early (nOf e .before .before .loop .inv) (passes e))
+
+quiet-before-requires : tie.Need-quiet-before-requires Inv-loop μ-loop
+quiet-before-requires c κs = let e = c .before .before .before .before in few (nOf e .before .before .loop .inv) (passes e)
+
+add-if3 : tie.Need-add-if3 Inv-loop μ-loop
+add-if3 c = let e = eOf (c .before .before) in omega (arith, early (nOf e .before .before .loop .inv) (passes e))
+
+plus-requires : tie.Need-plus-requires Inv-loop μ-loop
+plus-requires c κs = let e = eOf (c .before .before .before) in omega (arith, early (nOf e .before .before .loop .inv) (passes e))
+
+plain-requires-2 : tie.Need-plain-requires-2 Inv-loop μ-loop
+plain-requires-2 c κs = search needs
+
+line-at-requires-2 : tie.Need-line-at-requires-2 Inv-loop μ-loop
+line-at-requires-2 c κs = room (nOf (eOf (c .before .before .before .before .before .before)))
+
+loop-less-2 : tie.Need-loop-less-2 Inv-loop μ-loop
+loop-less-2 c = less (nOf (eOf (c .before .before .before .before .before .before .before .before .before)))
+
+loop-again-2 : tie.Need-loop-again-2 Inv-loop μ-loop
+loop-again-2 c =
+    let a = c .before .before in
+    let p = a .before .before in
+    let u = p .before in
+    let j = u .before .before .before .before in
+    let n = nOf (eOf j) in
+    let x = both _ _ (u .before .if3 .taken) in
+    let y = both _ _ (x .0) in
+    rw (u .plus .ensures)
+    (moved (n .before .before .loop .inv) (n .end-of .result) (n .before .loop-test .taken) (n .end-of .ensures) (passes (eOf j)) (j .if2 .quiet) (quietly j)
+    (sym (j .before .before .is-tick .ensures) ∙ y .0) (ltb-true _ _ (y .1)) (ltb-true _ _ (x .1)) (rw (p .plain2 .ensures) at (a .line-at2 .ensures .0))
+    (a .line-at2 .ensures .1) (a .line-at2 .kept .1 .0))
+
+step-on-requires : tie.Need-step-on-requires Inv-loop μ-loop
+step-on-requires c κs =
+    let e = eOf (c .before .before .before) in
+    let g = nOf e .before .before .loop .inv in
+    (good g (passes e), g .runs (passes e))
+
+line-if-requires : tie.Need-line-if-requires Inv-loop μ-loop
+line-if-requires c κs = room (nOf (eOf (c .before .before .before .before .before .before .before .before .before)))
+
+loop-less-3 : tie.Need-loop-less-3 Inv-loop μ-loop
+loop-less-3 c = less (nOf (eOf (c .before .before .before .before .before .before .before .before .before .before .before .before)))
+
+loop-again-3 : tie.Need-loop-again-3 Inv-loop μ-loop
+loop-again-3 c =
+    let a = c .before .before in
+    let z = a .before .before .before .before .before .before in
+    let j = z .before .before .before .before in
+    let n = nOf (eOf j) in
+    stepped (n .before .before .loop .inv) (n .end-of .result) (n .before .loop-test .taken) (n .end-of .ensures) (passes (eOf j)) (z .step-on .result)
+    (z .step-on .ensures) (a .line-if .ensures .0) (a .line-if .ensures .1) (a .line-if .kept .1 .1 .0)
+
+same-length : tie.Need-same-length Inv-loop μ-loop
+same-length c = c .before .loop .inv .long
+
+returns : tie.Need-returns Inv-loop μ-loop
+returns c = stopped (c .before .loop .inv) (c .loop-test .left)
+
+pub run-spec : {M : Type 1} → statement M
+run-spec =
+    tie.close
+    (tie.spec
+    Inv-loop
+    μ-loop
+    survey-requires
+    loop-holds
+    sub-loop
+    end-of-requires
+    sub-rec
+    part-rec-start
+    part-rec-end
+    plain-requires
+    line-at-requires
+    loop-less
+    loop-again
+    is-tick-requires
+    add-if2
+    quiet-before-requires
+    add-if3
+    plus-requires
+    plain-requires-2
+    line-at-requires-2
+    loop-less-2
+    loop-again-2
+    step-on-requires
+    line-if-requires
+    loop-less-3
+    loop-again-3
+    same-length
+    returns)

@@ -1,0 +1,118 @@
+// The script's loop: one record after the other, each with its line.
+ghost use mathlib.Core.Path.{_≡_};
+ghost use Prim.Native.Nat.{_+_, _≤_, min};
+ghost use lib.ListN.{length};
+ghost use Rattle.calendar.specs.Limits.{day};
+ghost use Rattle.layout.specs.Fields.{recordLength};
+ghost use Rattle.kernel.specs.Step.{plainAnswer};
+ghost use Rattle.lines.specs.Buffers.{Wrote};
+ghost use Rattle.lines.specs.Lines.{longestLine};
+ghost use Rattle.script.specs.Printed.{shown};
+ghost use Rattle.script.specs.Script.{Runs};
+use calendar::Duration;
+use calendar::LAST_INSTANT;
+use engine::calls::step_on;
+use engine::quiet::is_tick;
+use engine::quiet::quiet_before;
+use kernel::Answer;
+use kernel::Running;
+use lines::line_at;
+use rack::Rack;
+use survey::look::survey;
+
+pub const RECORD_LENGTH: usize = 24;
+
+pub const LONGEST_LINE: usize = 63;
+
+// What became of a script: the rack after it, how much of it was read, and how much text was written. It is full
+// where the room didn't reach for the next line.
+pub struct Ran {
+    pub rack: Rack,
+    pub read: usize,
+    pub written: usize,
+    pub full: bool,
+}
+
+// Where the record ends that starts at at.
+fn end_of(at: usize, n: usize) -> usize
+    requires { ⌜ at ≤ n ⌝ }
+    ensures { λ r. ⌜ r ≡ min (at + recordLength) n ⌝ }
+{
+    if n - at < RECORD_LENGTH {
+        n
+    } else {
+        at + RECORD_LENGTH
+    }
+}
+
+// An answer with empty sets.
+fn plain(number: u8, running: Running) -> Answer
+    ensures { λ r. ⌜ r ≡ plainAnswer number running ⌝ }
+{
+    Answer {
+        number,
+        running,
+        due: 0,
+        started: 0,
+        ended: 0,
+        lost: 0,
+        granted: 0,
+    }
+}
+
+// An answer's line, if it is one to print.
+fn line_if(show: bool, a: Answer, out: &mut [u8], at: usize) -> usize
+    requires { ⌜ at + longestLine ≤ length (now out) ⌝ }
+    ensures { λ r. ⌜ Wrote (now (out .entry)) at (shown show a) (now (out .exit)) r ⌝ }
+    ensures { λ r. ⌜ r ≤ at + longestLine ⌝ }
+{
+    if show {
+        return line_at(a, out, at);
+    }
+    at
+}
+
+// The script s, with as many lines as there is room for in out. On a quiet tick only the instant moves.
+pub fn run(rack: Rack, s: &[u8], out: &mut [u8]) -> Ran
+    ensures { λ r. ⌜ Runs day (rack .kernel) (now (s .entry)) (now (out .entry)) (now (out .exit)) r ⌝ }
+{
+    let mut k = rack.kernel;
+    let v = survey(k);
+    let mut r = v.runner;
+    let mut quiet: u64 = 0;
+    let mut at = 0;
+    let mut fill = 0;
+    while (at < s.len()) & (LONGEST_LINE <= out.len() - fill) {
+        let to = end_of(at, s.len());
+        let rec = &s[at..to];
+        at = to;
+        if !v.ok {
+            fill = line_at(plain(1, Running::Idle), out, fill);
+            continue;
+        }
+        let now = k.now;
+        let tick = is_tick(rec);
+        if tick & (quiet <= now.0 + 1) {
+            quiet = quiet_before(k);
+        }
+        if tick & (now.0 < LAST_INSTANT) & (now.0 + 1 < quiet) {
+            let next = now.plus(Duration(1));
+            k.now = next;
+            k.begun = true;
+            fill = line_at(plain(0, r), out, fill);
+            continue;
+        }
+        let z = step_on(k, rec, r);
+        let a = z.answer;
+        k = z.kernel;
+        r = a.running;
+        quiet = 0;
+        fill = line_if((a.number != 0) | k.begun, a, out, fill);
+    }
+    Ran {
+        rack: Rack { kernel: k },
+        read: at,
+        written: fill,
+        full: at < s.len(),
+    }
+}

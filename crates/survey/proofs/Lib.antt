@@ -1,0 +1,8 @@
+-- Laws that the proofs of the code share.
+pub mod KernelFacts
+pub mod Owned
+pub mod LeastLaws
+pub mod PlaceLaws
+pub mod TestLaws
+pub mod TaskFit
+pub mod Surveying

@@ -1,0 +1,91 @@
+-- The survey of a kernel: what one task adds, and what the whole says.
+use mathlib.Core.Path.{_≡_, refl, sym, _∙_}
+use mathlib.Core.Bool.{Bool, true, false, not, cond, _&&_, _||_, or-false}
+use Prim.Native.Nat.{ℕ, _+_, _*_, _≤_, _<_}
+use native.Mathlib.Nat.{le-antisymm}
+use native.Mathlib.Numerals.{add-one}
+use native.Mathlib.Omega.{arith}
+use lib.Dec.{ltb}
+use Rattle.calendar.specs.Limits.{tick}
+use Rattle.calendar.specs.Times.{duration, plus}
+use Rattle.calendar.specs.declared.Instant.{Instant}
+use Rattle.lock.proofs.Bools.{byBool}
+use Rattle.task.specs.Schedules.{falls}
+use Rattle.task.specs.Turns.{delayEnds}
+use Rattle.kernel.specs.State.{mostTasks, taskAt}
+use Rattle.kernel.specs.Quiet.{comes}
+use Rattle.kernel.specs.Running.{urgency, runningOf, runner}
+use Rattle.kernel.specs.Test.{allBelow, valid}
+use Rattle.kernel.specs.declared.Kernel.{Kernel}
+use Rattle.kernel.specs.declared.Running.{Running}
+use Rattle.survey.specs.Looks.{nobody, taskOf, stirsNext, unfit, surveyed}
+use Rattle.survey.proofs.LeastLaws.{leastOf, canRun, Bounded, least-none, least-next, least-found}
+use Rattle.survey.proofs.TestLaws.{fitAt, Upto, upto-none, upto-passes}
+
+-- What the scan knows of the tasks below i: all are fit, whether one comes at x, and the least urgency of those that can run.
+pub record Looked (day : ℕ) (k : Kernel) (x : Instant) (i : ℕ) (stirs : Bool) (least : ℕ) : Type 0 where
+  pub tasks : Upto (fitAt day k) (k .counts .tasks) i
+  pub comings : stirs ≡ not (allBelow i (λ j. not (comes x (taskAt (k .tasks) j))))
+  pub nearest : least ≡ leastOf i (canRun (k .tasks)) (k .tasks)
+
+-- One part of one task: e is what its test said, or it has no such part.
+pub stirs-more : {a b c d e : Bool} → b ≡ a → c ≡ (b || e) → e ≡ d → c ≡ (a || d)
+stirs-more p q r = q ∙ rw (p, r)
+
+pub stirs-same : {a b c d : Bool} → b ≡ a → c ≡ b → d ≡ false → c ≡ (a || d)
+stirs-same {a} p q r = q ∙ p ∙ rw (r, or-false a)
+
+module _ (day : ℕ) (k : Kernel) (x : Instant) where
+  pub looked-none : Looked day k x 0 false nobody
+  unfolding allBelow
+  looked-none = record { tasks = upto-none _ _; comings = refl; nearest = sym (least-none _ _) }
+
+  module _ (b : Bounded (k .tasks)) (few : k .counts .tasks ≤ mostTasks) {i : ℕ} {stirs : Bool} {least : ℕ} (p : Looked day k x i stirs least) where
+    pub looked-next :
+        i < k .counts .tasks → {some runs : Bool} {after : ℕ} → fitAt day k i ≡ true
+        → some ≡ (stirs || falls x (taskAt (k .tasks) i .schedule .alarm) || delayEnds x (taskAt (k .tasks) i .hold))
+        → runs ≡ canRun (k .tasks) i
+        → after ≡ cond (runs && ltb (mostTasks * taskAt (k .tasks) i .current + i) least) (mostTasks * taskAt (k .tasks) i .current + i) least
+        → Looked day k x (i + 1) some after
+    unfolding allBelow urgency
+    looked-next less fits c r a =
+        record {
+          tasks = upto-passes (p .tasks) less fits;
+          comings = c ∙ rw (add-one, p .comings) (one (allBelow i _) _ _);
+          nearest = a ∙ rw (r, p .nearest) (sym (least-next (canRun (k .tasks)) (k .tasks) i b (omega arith)));
+        }
+      where
+        one : (a f d : Bool) → (not a || f || d) ≡ not (a && not (f || d))
+        one false f d = refl
+        one true false false = refl
+        one true false true = refl
+        one true true d = refl
+
+    module _ (end : k .counts .tasks ≤ i) where
+      last : i ≡ k .counts .tasks
+      last = le-antisymm (p .tasks .within) end
+
+      pub looked-stirs : x ≡ plus (k .now) (duration tick) → stirs ≡ stirsNext k
+      unfolding stirsNext
+      looked-stirs e = p .comings ∙ rw (last, e)
+
+      pub looked-runs : taskOf least ≡ runner k
+      unfolding runningOf
+      looked-runs = rw (p .nearest, last) (least-found _ (k .tasks) b (k .counts .tasks) few)
+
+-- ---- the whole
+
+module _ (day : ℕ) (k : Kernel) where
+  pub unfit-is : false ≡ valid day k → unfit ≡ surveyed day k
+  unfolding surveyed
+  unfit-is e = rw (← e)
+
+  pub fit-is :
+      true ≡ valid day k → {b : Bool} {r : Running} → b ≡ stirsNext k → r ≡ runner k
+      → record { ok = true; stirs = b; runner = r } ≡ surveyed day k
+  unfolding surveyed
+  fit-is e f g = rw (← e, f, g)
+
+  pub survey-ok : surveyed day k .ok ≡ valid day k
+  unfolding surveyed
+  survey-ok = byBool (valid day k) (λ e. rw e) (λ e. rw e)

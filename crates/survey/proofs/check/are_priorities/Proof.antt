@@ -1,0 +1,21 @@
+-- One after the other.
+use borrow.Author.Needs.{needs}
+use borrow.Author.Tests.{not-true, not-false}
+use Rattle.survey.proofs.check.are_priorities.Statement.{statement}
+use Rattle.survey.proofs.check.are_priorities.Tie as tie
+
+is-priority-requires : tie.Need-is-priority-requires
+is-priority-requires c κs = search needs
+
+returns : tie.Need-returns
+returns c = rw (← c .before .is-priority .ensures, not-true (c .before .is-priority .result) (c .if1 .taken))
+
+is-priority-requires-2 : tie.Need-is-priority-requires-2
+is-priority-requires-2 c κs = search needs
+
+returns-2 : tie.Need-returns-2
+returns-2 c = rw (← c .before .before .is-priority .ensures, not-false (c .before .before .is-priority .result) (c .before .if1 .left)) (c .is-priority2 .ensures)
+
+pub are-priorities-spec : {M : Type 1} → statement M
+are-priorities-spec =
+    tie.close (tie.spec is-priority-requires returns is-priority-requires-2 returns-2)

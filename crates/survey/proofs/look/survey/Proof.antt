@@ -1,0 +1,329 @@
+-- Each task in its turn: one that isn't fit ends the look, and every other adds what comes of it and its urgency.
+use borrow.Author.Needs.{needs}
+use borrow.Author.Tests.{not-true, not-false}
+use mathlib.Core.Path.{_≡_, refl, sym, _∙_}
+use mathlib.Core.Bool.{true, false, _&&_, _||_}
+use mathlib.Core.Logic.{⊎-elim}
+use Prim.Native.Nat.{_-_, _<_, _≤_}
+use native.Mathlib.Omega.{arith}
+use Rattle.calendar.specs.Limits.{day}
+use Rattle.calendar.specs.declared.Instant.{Instant}
+use Rattle.task.specs.Schedules.{falls}
+use Rattle.task.specs.Turns.{delayEnds}
+use Rattle.task.specs.declared.Task.{Task}
+use Rattle.kernel.specs.State.{mostTasks, taskAt}
+use Rattle.kernel.specs.Test.{isPriority, scheduleOk, allBelow, countsOk, valid}
+use Rattle.kernel.specs.declared.Kernel.{Kernel}
+use Rattle.survey.specs.Looks.{unfit, surveyed}
+use Rattle.survey.proofs.Owned.{Owned}
+use Rattle.survey.proofs.LeastLaws.{bounds}
+use Rattle.survey.proofs.TaskFit.{plan-none, falls-none, eased, odd-priority, odd-schedule, odd-busy, fit-eased, fit-busy}
+use Rattle.survey.proofs.TestLaws.{fitAt, upto-fails, upto-all, out-of-range, timely, counted, tasks-fit, all-fit}
+use Rattle.survey.proofs.Surveying.{Looked, stirs-more, stirs-same, looked-none, looked-next, looked-stirs, looked-runs, unfit-is, fit-is}
+use Rattle.survey.proofs.look.survey.Statement.{statement}
+use Rattle.survey.proofs.look.survey.Tie as tie
+
+abbrev Inv-loop : tie.InvT-loop
+Inv-loop k counts n x locks stirs₀ least₀ i₀ stirs least i = Looked day k x i stirs least
+
+abbrev μ-loop : tie.MeasureT-loop
+μ-loop k counts n x locks stirs₀ least₀ i₀ stirs least i = n - i
+
+-- ---- what is known on the way
+
+abbrev P : Type 0
+P = tie.Else1 Inv-loop μ-loop
+
+abbrev kernel : P → Kernel
+kernel c = c .before .before .before .before .before .before .args .t1
+
+good : (c : P) → Owned (kernel c)
+good c = let s = c .before .before .before .before .before .before in (s .good .0 .0, s .good .0 .1 .1)
+
+few : (c : P) → kernel c .counts .tasks ≤ mostTasks
+few c = tasks-fit day (kernel c) (c .before .before .is-time-of-day .ensures) (c .before .are-counts-ok .ensures) (c .if1 .left)
+
+known : (c : P) → countsOk (kernel c .counts) ≡ true
+known c = counted day (kernel c) (c .before .before .is-time-of-day .ensures) (c .before .are-counts-ok .ensures) (c .if1 .left)
+
+all : (c : P) → allBelow (kernel c .counts .tasks) (fitAt day (kernel c)) ≡ valid day (kernel c)
+all c = all-fit day (kernel c) (c .before .before .is-time-of-day .ensures) (c .before .are-counts-ok .ensures) (c .if1 .left) (good c)
+
+abbrev I : Type 0
+I = tie.In-loop Inv-loop μ-loop
+
+abbrev passed : I → P
+passed c = c .before .before .before .before .before
+
+abbrev one : I → Task
+one c = taskAt (kernel (passed c) .tasks) (c .before .loop .i)
+
+room : (c : I) → c .before .loop .i < mostTasks
+room c = omega (arith, few (passed c), c .loop-test .taken)
+
+-- The instant of the next tick.
+abbrev moment : I → Instant
+moment c = c .before .before .before .plus .result
+
+-- A task that isn't fit ends the look.
+ends : (c : I) → fitAt day (kernel (passed c)) (c .before .loop .i) ≡ false → unfit ≡ surveyed day (kernel (passed c))
+ends c e = unfit-is day (kernel (passed c)) (upto-fails (c .before .loop .inv .tasks) (c .loop-test .taken) e ∙ all (passed c))
+
+abbrev here : tie.After-are-priorities Inv-loop μ-loop → I
+here c = c .before
+
+-- Where the schedule has been looked at.
+abbrev S : Type 0
+S = tie.Joined3 Inv-loop μ-loop
+
+abbrev prior : S → tie.After-are-priorities Inv-loop μ-loop
+prior c = c .before .before .before .before .before .before
+
+priorities : (c : S) → let t = one (here (prior c)) in (isPriority (t .declared) && isPriority (t .current)) ≡ true
+priorities c = sym (prior c .are-priorities .ensures) ∙ not-false _ (c .before .before .before .before .before .if2 .left)
+
+schedule : (c : S) → let i = here (prior c) in let s = one i .schedule in scheduleOk day (kernel (passed i) .counts .interrupts) (s .alarm .plan) s ≡ true
+schedule c =
+    ⊎-elim (λ w. sym (w .3 .ensures) ∙ not-false _ (w .4 .left))
+    (λ w. plan-none day _ _ _ (sym (c .before .is-planned .ensures) ∙ w .0 .left)) (c .if3 .came)
+
+falling : (c : S) → let i = here (prior c) in c .if3 .stirs ≡ (i .before .loop .stirs || falls (moment i) (one i .schedule .alarm))
+falling c =
+    let i = here (prior c) in
+    ⊎-elim (λ w. stirs-more {a = i .before .loop .stirs} refl (w .7) (w .6 .ensures))
+    (λ w. stirs-same {a = i .before .loop .stirs} refl (w .1) (falls-none (moment i) (one i .schedule .alarm) (sym (c .before .is-planned .ensures) ∙ w .0 .left))) (c .if3 .came)
+
+-- Where all of the task has been looked at.
+abbrev T : Type 0
+T = tie.Joined5 Inv-loop μ-loop
+
+abbrev settled : T → S
+settled c = c .before .before .before
+
+fits : (c : T) → let i = here (prior (settled c)) in fitAt day (kernel (passed i)) (i .before .loop .i) ≡ true
+fits c =
+    let p = settled c in
+    let i = here (prior p) in
+    let k = kernel (passed i) in
+    ⊎-elim (λ w. fit-busy day (k .counts) (k .locks) (one i) (priorities p) (schedule p) (sym (w .2 .ensures) ∙ not-false _ (w .3 .left)))
+    (λ w. fit-eased day (k .counts) (k .locks) (one i) (priorities p) (schedule p) (sym (c .before .is-at-ease .ensures) ∙ not-false _ (w .0 .left)))
+    (c .if5 .came)
+
+stirring :
+    (c : T) → let i = here (prior (settled c)) in
+    c .if5 .stirs ≡ (i .before .loop .stirs || falls (moment i) (one i .schedule .alarm) || delayEnds (moment i) (one i .hold))
+stirring c =
+    let p = settled c in
+    let i = here (prior p) in
+    let t = one i in
+    ⊎-elim (λ w. stirs-more (falling p) (w .5) (w .4 .ensures))
+    (λ w. stirs-same (falling p) (w .1) (eased (t .kept) (t .wait) (t .hold) (sym (c .before .is-at-ease .ensures) ∙ not-false _ (w .0 .left)) .ends (moment i)))
+    (c .if5 .came)
+
+-- ---- the needs
+
+is-time-of-day-requires : tie.Need-is-time-of-day-requires Inv-loop μ-loop
+is-time-of-day-requires c κs = search needs
+
+are-counts-ok-requires : tie.Need-are-counts-ok-requires Inv-loop μ-loop
+are-counts-ok-requires c κs = search needs
+
+unfit-requires : tie.Need-unfit-requires Inv-loop μ-loop
+unfit-requires c κs = search needs
+
+returns : tie.Need-returns Inv-loop μ-loop
+returns c =
+    let r = c .before .before in
+    let k = r .before .before .before .before .before .args .t1 in
+    c .unfit .ensures ∙ unfit-is day k (out-of-range day k (r .before .is-time-of-day .ensures) (r .are-counts-ok .ensures) (c .before .if1 .taken))
+
+cast-n : tie.Need-cast-n Inv-loop μ-loop
+cast-n c = search needs
+
+plus-requires : tie.Need-plus-requires Inv-loop μ-loop
+plus-requires c κs =
+    let r = c .before .before in
+    omega (arith, timely day (kernel (c .before)) (r .before .is-time-of-day .ensures) (r .are-counts-ok .ensures) (c .before .if1 .left))
+
+loop-holds : tie.Need-loop-holds Inv-loop μ-loop
+loop-holds c = looked-none day _ _
+
+mul-current : tie.Need-mul-current Inv-loop μ-loop
+mul-current c = omega (arith, room c)
+
+element-copy-out-current : tie.Need-element-copy-out-current Inv-loop μ-loop
+element-copy-out-current c = omega (arith, room c)
+
+mul-are-priorities : tie.Need-mul-are-priorities Inv-loop μ-loop
+mul-are-priorities c = omega (arith, room c)
+
+element-copy-out-are-priorities : tie.Need-element-copy-out-are-priorities Inv-loop μ-loop
+element-copy-out-are-priorities c = omega (arith, room c)
+
+are-priorities-requires : tie.Need-are-priorities-requires Inv-loop μ-loop
+are-priorities-requires c κs = search needs
+
+unfit-requires-2 : tie.Need-unfit-requires-2 Inv-loop μ-loop
+unfit-requires-2 c κs = search needs
+
+returns-2 : tie.Need-returns-2 Inv-loop μ-loop
+returns-2 c =
+    let p = c .before .before in
+    let k = kernel (passed (here p)) in
+    c .unfit2 .ensures
+    ∙ ends (here p) (odd-priority day (k .counts) (k .locks) (one (here p)) (sym (p .are-priorities .ensures) ∙ not-true _ (c .before .if2 .taken)))
+
+mul-t : tie.Need-mul-t Inv-loop μ-loop
+mul-t c = omega (arith, room (here (c .before)))
+
+element-copy-out-t : tie.Need-element-copy-out-t Inv-loop μ-loop
+element-copy-out-t c = omega (arith, room (here (c .before)))
+
+is-planned-requires : tie.Need-is-planned-requires Inv-loop μ-loop
+is-planned-requires c κs = search needs
+
+mul-t-2 : tie.Need-mul-t-2 Inv-loop μ-loop
+mul-t-2 c = omega (arith, room (here (c .before .before .before .before .before .before)))
+
+element-copy-out-t-2 : tie.Need-element-copy-out-t-2 Inv-loop μ-loop
+element-copy-out-t-2 c = omega (arith, room (here (c .before .before .before .before .before .before)))
+
+is-schedule-ok-requires : tie.Need-is-schedule-ok-requires Inv-loop μ-loop
+is-schedule-ok-requires c κs = sym (c .before .before .before .is-planned .ensures) ∙ c .before .before .if3 .taken
+
+unfit-requires-3 : tie.Need-unfit-requires-3 Inv-loop μ-loop
+unfit-requires-3 c κs = search needs
+
+returns-3 : tie.Need-returns-3 Inv-loop μ-loop
+returns-3 c =
+    let a = c .before .before in
+    let i = here (a .before .before .before .before .before .before .before .before .before) in
+    let k = kernel (passed i) in
+    c .unfit3 .ensures
+    ∙ ends i (odd-schedule day (k .counts) (k .locks) (one i) (sym (a .is-schedule-ok .ensures) ∙ not-true _ (c .before .if4 .taken)))
+
+falls-on-requires : tie.Need-falls-on-requires Inv-loop μ-loop
+falls-on-requires c κs = search needs
+
+mul-t-3 : tie.Need-mul-t-3 Inv-loop μ-loop
+mul-t-3 c = omega (arith, room (here (prior c)))
+
+element-copy-out-t-3 : tie.Need-element-copy-out-t-3 Inv-loop μ-loop
+element-copy-out-t-3 c = omega (arith, room (here (prior c)))
+
+is-at-ease-requires : tie.Need-is-at-ease-requires Inv-loop μ-loop
+is-at-ease-requires c κs = search needs
+
+mul-t-4 : tie.Need-mul-t-4 Inv-loop μ-loop
+mul-t-4 c = omega (arith, room (here (prior (c .before .before .before))))
+
+element-copy-out-t-4 : tie.Need-element-copy-out-t-4 Inv-loop μ-loop
+element-copy-out-t-4 c = omega (arith, room (here (prior (c .before .before .before))))
+
+is-busy-ok-requires : tie.Need-is-busy-ok-requires Inv-loop μ-loop
+is-busy-ok-requires c κs = known (passed (here (prior (c .before .before .before .before))))
+
+unfit-requires-4 : tie.Need-unfit-requires-4 Inv-loop μ-loop
+unfit-requires-4 c κs = search needs
+
+returns-4 : tie.Need-returns-4 Inv-loop μ-loop
+returns-4 c =
+    let b = c .before .before in
+    let e = b .before .before .before in
+    let i = here (prior (e .before .before)) in
+    let k = kernel (passed i) in
+    c .unfit4 .ensures
+    ∙ ends i (odd-busy day (k .counts) (k .locks) (one i)
+    (sym (e .is-at-ease .ensures) ∙ not-true _ (b .before .before .if5 .taken))
+    (sym (b .is-busy-ok .ensures) ∙ not-true _ (c .before .if6 .taken)))
+
+ends-at-requires : tie.Need-ends-at-requires Inv-loop μ-loop
+ends-at-requires c κs = search needs
+
+mul-can-run : tie.Need-mul-can-run Inv-loop μ-loop
+mul-can-run c = omega (arith, room (here (prior (settled c))))
+
+element-copy-out-can-run : tie.Need-element-copy-out-can-run Inv-loop μ-loop
+element-copy-out-can-run c = omega (arith, room (here (prior (settled c))))
+
+can-run-requires : tie.Need-can-run-requires Inv-loop μ-loop
+can-run-requires c κs = search needs
+
+nearest-requires : tie.Need-nearest-requires Inv-loop μ-loop
+nearest-requires c κs = room (here (prior (settled (c .before))))
+
+add-i : tie.Need-add-i Inv-loop μ-loop
+add-i c = omega (arith, room (here (prior (settled (c .before .before)))))
+
+loop-less : tie.Need-loop-less Inv-loop μ-loop
+loop-less c =
+    let i = here (prior (settled (c .before .before))) in
+    omega (arith, i .loop-test .taken)
+
+loop-again : tie.Need-loop-again Inv-loop μ-loop
+loop-again c =
+    let t = c .before .before in
+    let i = here (prior (settled t)) in
+    let k = kernel (passed i) in
+    looked-next day k (moment i) (bounds k (good (passed i))) (few (passed i)) (i .before .loop .inv) (i .loop-test .taken)
+    (fits t) (stirring t) (c .before .can-run .ensures) (c .nearest .ensures)
+
+task-of-requires : tie.Need-task-of-requires Inv-loop μ-loop
+task-of-requires c κs = search needs
+
+returns-5 : tie.Need-returns-5 Inv-loop μ-loop
+returns-5 c =
+    let l = c .before .before in
+    let p = l .before .before .before .before in
+    let k = kernel p in
+    fit-is day k (upto-all (l .loop .inv .tasks) (c .before .loop-test .left) ∙ all p)
+    (looked-stirs day k _ (bounds k (good p)) (few p) (l .loop .inv) (c .before .loop-test .left) (l .before .before .plus .ensures))
+    (c .task-of .ensures ∙ looked-runs day k _ (bounds k (good p)) (few p) (l .loop .inv) (c .before .loop-test .left))
+
+pub survey-spec : {M : Type 1} → statement M
+survey-spec =
+    tie.close
+    (tie.spec
+    Inv-loop
+    μ-loop
+    is-time-of-day-requires
+    are-counts-ok-requires
+    unfit-requires
+    returns
+    cast-n
+    plus-requires
+    loop-holds
+    mul-current
+    element-copy-out-current
+    mul-are-priorities
+    element-copy-out-are-priorities
+    are-priorities-requires
+    unfit-requires-2
+    returns-2
+    mul-t
+    element-copy-out-t
+    is-planned-requires
+    mul-t-2
+    element-copy-out-t-2
+    is-schedule-ok-requires
+    unfit-requires-3
+    returns-3
+    falls-on-requires
+    mul-t-3
+    element-copy-out-t-3
+    is-at-ease-requires
+    mul-t-4
+    element-copy-out-t-4
+    is-busy-ok-requires
+    unfit-requires-4
+    returns-4
+    ends-at-requires
+    mul-can-run
+    element-copy-out-can-run
+    can-run-requires
+    nearest-requires
+    add-i
+    loop-less
+    loop-again
+    task-of-requires
+    returns-5)

@@ -1,0 +1,81 @@
+-- Names for contracts: what one look at a kernel tells.
+use mathlib.Core.Bool.{Bool, true, false, not, cond, _&&_}
+use Prim.Native.Nat.{ℕ, _%_}
+use lib.Dec.{leb}
+use Rattle.calendar.specs.Limits.{tick}
+use Rattle.calendar.specs.Times.{duration, plus}
+use Rattle.lock.specs.Locks.{waiting, grantable}
+use Rattle.lock.specs.declared.Locks.{Locks}
+use Rattle.lock.specs.declared.Wait.{Wait}
+use Rattle.task.specs.State.{unheld, isKept, wanted}
+use Rattle.task.specs.declared.Hold.{Hold}
+use Rattle.task.specs.declared.Kept.{Kept}
+use Rattle.task.specs.declared.Plan.{Plan}
+use Rattle.task.specs.declared.Plan.the-variants.{None, Clock, Armed, Triggered}
+use Rattle.task.specs.declared.Task.{Task}
+use Rattle.kernel.specs.Sets.{put}
+use Rattle.kernel.specs.State.{mostTasks, taskAt}
+use Rattle.kernel.specs.Quiet.{comes}
+use Rattle.kernel.specs.Running.{runner}
+use Rattle.kernel.specs.Test.{allBelow, countsOk, keptOk, holdOk, waitOk, valid}
+use Rattle.kernel.specs.declared.Counts.{Counts}
+use Rattle.kernel.specs.declared.Kernel.{Kernel}
+use Rattle.kernel.specs.declared.Running.{Running}
+use Rattle.kernel.specs.declared.Running.the-variants.{Idle, Runs}
+use Rattle.survey.specs.declared.Survey.{Survey}
+
+-- More than the urgency of any task: 32 * 255 + 31 is the largest.
+abbrev pub nobody : ℕ
+nobody = 8192
+
+-- The task that an urgency is of, or none.
+unfoldable pub taskOf : ℕ → Running
+taskOf u = cond (leb nobody u) Idle (Runs (u % mostTasks))
+
+-- The counts are in range, and each wait's list names one to four declared numbers, none twice.
+unfoldable pub waitsOk : Kernel → Bool
+waitsOk k = countsOk (k .counts) && allBelow (k .counts .tasks) (λ i. waitOk (k .counts) (taskAt (k .tasks) i))
+
+-- The set n, and task i if b.
+abbrev pub putIf : ℕ → Bool → ℕ → ℕ
+putIf i true n = put i n
+putIf i false n = n
+
+-- ---- one task
+
+-- There is a schedule.
+abbrev pub planned : Plan → Bool
+planned None = false
+planned Clock = true
+planned Armed = true
+planned Triggered = true
+
+-- No start kept back, waiting for nothing, unheld.
+abbrev pub atEase : Kept → Wait → Hold → Bool
+atEase k w h = not (isKept k) && not (waiting w) && unheld h
+
+-- It waits for nothing, or on a list in order that could not be granted.
+unfoldable pub waitSettled : Counts → Locks → Task → Bool
+waitSettled n r t = waitOk n t && not (waiting (t .wait) && grantable (t .wait) r (wanted t))
+
+-- What the test asks of a task that isn't at ease, beside its priorities and its schedule.
+unfoldable pub busyOk : Counts → Locks → Task → Bool
+busyOk n r t = t .alive && keptOk (t .kept) && holdOk (t .hold) && waitSettled n r t
+
+-- ---- all of it
+
+-- At the next tick some declared task's schedule falls due or its delay ends.
+unfoldable pub stirsNext : Kernel → Bool
+stirsNext k =
+    not (allBelow (k .counts .tasks) (λ i. not (comes (plus (k .now) (duration tick)) (taskAt (k .tasks) i))))
+
+-- The survey of a kernel that fails the test, which is not looked at further.
+abbrev pub unfit : Survey
+unfit = record { ok = false; stirs = false; runner = Idle }
+
+-- What one look at a kernel tells.
+unfoldable pub surveyed : ℕ → Kernel → Survey
+surveyed day k =
+    cond (valid day k)
+    (record { ok = true; stirs = stirsNext k; runner = runner k })
+    unfit

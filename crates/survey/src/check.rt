@@ -1,0 +1,239 @@
+// The kernel test: what passes it isn't refused with 1.
+ghost use mathlib.Core.Path.{_≡_};
+ghost use mathlib.Core.Bool.{true, _&&_};
+ghost use Prim.Native.Nat.{_≤_};
+ghost use lib.Dec.{ltb};
+ghost use lib.ListN.{take};
+ghost use Rattle.lock.specs.Locks.{every};
+ghost use Rattle.survey.specs.Looks.{planned, atEase, waitSettled, busyOk};
+ghost use Rattle.calendar.specs.Limits.{day};
+ghost use Rattle.kernel.specs.State.{countOf};
+ghost use Rattle.kernel.specs.Test.{isPriority, isStored, holdOk, keptOk, endOk, momentOk, termsOk, listenerOk, nextOk, scheduleOk, countsOk};
+use calendar::End;
+use calendar::Instant;
+use calendar::LONGEST_DURATION;
+use calendar::MOST_INSTANT;
+use calendar::Moment;
+use calendar::is_duration;
+use calendar::is_period;
+use calendar::is_time_of_day;
+use kernel::Counts;
+use layout::Numbers;
+use lock::Locks;
+use lock::Wait;
+use lock::is_waiting;
+use record::lists::is_distinct;
+use task::Hold;
+use task::Kept;
+use task::Plan;
+use task::Schedule;
+use task::Task;
+
+fn is_stored(n: Instant) -> bool
+    ensures { λ r. ⌜ r ≡ isStored n ⌝ }
+{
+    n.0 <= MOST_INSTANT
+}
+
+fn is_hold_ok(h: Hold) -> bool
+    ensures { λ r. ⌜ r ≡ holdOk h ⌝ }
+{
+    match h {
+        Hold::Unheld => true,
+        Hold::Suspended => true,
+        Hold::Delayed(n) => is_stored(n),
+    }
+}
+
+// A priority is 1 to 255, and a byte can't be more.
+fn is_priority(p: u8) -> bool
+    ensures { λ r. ⌜ r ≡ isPriority p ⌝ }
+{
+    1 <= p
+}
+
+fn is_kept_ok(k: Kept) -> bool
+    ensures { λ r. ⌜ r ≡ keptOk k ⌝ }
+{
+    match k {
+        Kept::Empty => true,
+        Kept::Back(p) => is_priority(p),
+    }
+}
+
+fn is_end_ok(e: End) -> bool
+    ensures { λ r. ⌜ r ≡ endOk day e ⌝ }
+{
+    match e {
+        End::Open => true,
+        End::Until(t) => is_time_of_day(t),
+        End::During(d) => is_duration(d.0),
+    }
+}
+
+fn is_moment_ok(m: Moment) -> bool
+    ensures { λ r. ⌜ r ≡ momentOk m ⌝ }
+{
+    match m {
+        Moment::Never => true,
+        Moment::At(n) => is_stored(n),
+    }
+}
+
+fn are_terms_ok(s: Schedule) -> bool
+    ensures { λ r. ⌜ r ≡ termsOk day s ⌝ }
+{
+    let end = s.end;
+    if !is_priority(s.priority) {
+        return false;
+    }
+    if !is_period(s.period) {
+        return false;
+    }
+    is_end_ok(end)
+}
+
+fn is_listener_ok(interrupts: u8, s: Schedule) -> bool
+    ensures { λ r. ⌜ r ≡ listenerOk interrupts s ⌝ }
+{
+    let alarm = s.alarm;
+    (alarm.interrupt < interrupts) & (alarm.delay.0 <= LONGEST_DURATION)
+}
+
+fn is_next_ok(s: Schedule) -> bool
+    ensures { λ r. ⌜ r ≡ nextOk s ⌝ }
+{
+    let alarm = s.alarm;
+    let next = alarm.next;
+    let last = s.last;
+    if !is_stored(next) {
+        return false;
+    }
+    is_moment_ok(last)
+}
+
+// The test of a schedule that there is.
+pub fn is_schedule_ok(interrupts: u8, s: Schedule) -> bool
+    requires { ⌜ planned (s .alarm .plan) ≡ true ⌝ }
+    ensures { λ r. ⌜ r ≡ scheduleOk day interrupts (s .alarm .plan) s ⌝ }
+{
+    let alarm = s.alarm;
+    let plan = alarm.plan;
+    if plan.is_on_interrupt() {
+        if !is_listener_ok(interrupts, s) {
+            return false;
+        }
+    }
+    if plan.is_pending() {
+        if !is_next_ok(s) {
+            return false;
+        }
+    }
+    are_terms_ok(s)
+}
+
+pub fn is_planned(p: Plan) -> bool
+    ensures { λ r. ⌜ r ≡ planned p ⌝ }
+{
+    match p {
+        Plan::None => false,
+        Plan::Clock => true,
+        Plan::Armed => true,
+        Plan::Triggered => true,
+    }
+}
+
+pub fn are_priorities(p: u8, q: u8) -> bool
+    ensures { λ r. ⌜ r ≡ (isPriority p && isPriority q) ⌝ }
+{
+    if !is_priority(p) {
+        return false;
+    }
+    is_priority(q)
+}
+
+// No start kept back, waiting for nothing, unheld.
+pub fn is_at_ease(kept: Kept, wait: Wait, hold: Hold) -> bool
+    ensures { λ r. ⌜ r ≡ atEase kept wait hold ⌝ }
+{
+    if kept.is_back() {
+        return false;
+    }
+    if is_waiting(wait) {
+        return false;
+    }
+    hold.is_unheld()
+}
+
+// How many numbers a list of a kind can name.
+pub fn count_of(n: Counts, w: Wait) -> u8
+    ensures { λ r. ⌜ r ≡ countOf n w ⌝ }
+{
+    match w {
+        Wait::Nothing => 0,
+        Wait::Request => n.semaphores,
+        Wait::Reserve => n.bolts,
+        Wait::Enter => n.bolts,
+    }
+}
+
+// Whether each of the first n numbers of a list is below a count.
+pub fn are_below(list: Numbers, n: usize, most: u8) -> bool
+    requires { ⌜ n ≤ 4 ⌝ }
+    ensures { λ r. ⌜ r ≡ every (λ x. ltb x most) (take n list) ⌝ }
+{
+    for j in 0..n {
+        if most <= list[j] {
+            return false;
+        }
+    }
+    true
+}
+
+// A wait's list names one to four numbers, none twice, all declared, and could not be granted.
+fn is_wait_settled(n: Counts, locks: Locks, t: Task) -> bool
+    requires { ⌜ countsOk n ≡ true ⌝ }
+    ensures { λ r. ⌜ r ≡ waitSettled n locks t ⌝ }
+{
+    let wait = t.wait;
+    if !is_waiting(wait) {
+        return true;
+    }
+    let list = t.list;
+    let len = t.len as usize;
+    if !((1 <= len) & (len <= 4)) {
+        return false;
+    }
+    if !is_distinct(list, len) {
+        return false;
+    }
+    if !are_below(list, len, count_of(n, wait)) {
+        return false;
+    }
+    !locks.is_grantable(wait, len, list)
+}
+
+// The test of a task that isn't at ease, beside its priorities and its schedule.
+pub fn is_busy_ok(n: Counts, locks: Locks, t: Task) -> bool
+    requires { ⌜ countsOk n ≡ true ⌝ }
+    ensures { λ r. ⌜ r ≡ busyOk n locks t ⌝ }
+{
+    let kept = t.kept;
+    let hold = t.hold;
+    if !t.alive {
+        return false;
+    }
+    if !is_kept_ok(kept) {
+        return false;
+    }
+    if !is_hold_ok(hold) {
+        return false;
+    }
+    is_wait_settled(n, locks, t)
+}
+
+pub fn are_counts_ok(n: Counts) -> bool
+    ensures { λ r. ⌜ r ≡ countsOk n ⌝ }
+{
+    (n.tasks <= 32) & (n.semaphores <= 16) & (n.bolts <= 16) & (n.interrupts <= 8)
+}

@@ -1,0 +1,93 @@
+// One look at a kernel.
+ghost use mathlib.Core.Path.{_≡_};
+ghost use Rattle.calendar.specs.Limits.{day};
+ghost use Rattle.kernel.specs.Test.{valid};
+ghost use Rattle.survey.specs.Looks.{unfit, surveyed};
+use crate::Survey;
+use crate::check::are_counts_ok;
+use crate::check::are_priorities;
+use crate::check::is_at_ease;
+use crate::check::is_busy_ok;
+use crate::check::is_planned;
+use crate::check::is_schedule_ok;
+use crate::scan::NOBODY;
+use crate::scan::can_run;
+use crate::scan::nearest;
+use crate::scan::task_of;
+use calendar::Duration;
+use calendar::LAST_INSTANT;
+use calendar::is_time_of_day;
+use kernel::Kernel;
+use kernel::Running;
+
+// The survey of a kernel that fails the test.
+fn unfit() -> Survey
+    ensures { λ r. ⌜ r ≡ unfit ⌝ }
+{
+    Survey {
+        ok: false,
+        stirs: false,
+        runner: Running::Idle,
+    }
+}
+
+// Each part of a turn copies the task anew: of a copy that is only read, the machine loads just the fields in use.
+pub fn survey(k: Kernel) -> Survey
+    ensures { λ r. ⌜ r ≡ surveyed day k ⌝ }
+{
+    let counts = k.counts;
+    let now = k.now;
+    if !((now.0 <= LAST_INSTANT) & is_time_of_day(k.clock) & are_counts_ok(counts)) {
+        return unfit();
+    }
+    let n = counts.tasks as usize;
+    let at = now.plus(Duration(1));
+    let locks = k.locks;
+    let mut stirs = false;
+    let mut least = NOBODY;
+    for i in 0..n {
+        let current = k.tasks[i].current;
+        if !are_priorities(k.tasks[i].declared, current) {
+            return unfit();
+        }
+        let t = k.tasks[i];
+        let s = t.schedule;
+        let alarm = s.alarm;
+        let plan = alarm.plan;
+        if is_planned(plan) {
+            let t = k.tasks[i];
+            let s = t.schedule;
+            if !is_schedule_ok(counts.interrupts, s) {
+                return unfit();
+            }
+            let alarm = s.alarm;
+            stirs = stirs | alarm.falls_on(at);
+        }
+        let t = k.tasks[i];
+        let kept = t.kept;
+        let wait = t.wait;
+        let hold = t.hold;
+        if !is_at_ease(kept, wait, hold) {
+            let t = k.tasks[i];
+            if !is_busy_ok(counts, locks, t) {
+                return unfit();
+            }
+            let hold = t.hold;
+            stirs = stirs | hold.ends_at(at);
+        }
+        least = nearest(least, can_run(k.tasks[i].alive, wait, hold), current, i);
+    }
+    Survey {
+        ok: true,
+        stirs,
+        runner: task_of(least),
+    }
+}
+
+// The kernel test.
+pub fn is_valid(k: Kernel) -> bool
+    ensures { λ r. ⌜ r ≡ valid day k ⌝ }
+{
+    let v = survey(k);
+    v.ok
+}
