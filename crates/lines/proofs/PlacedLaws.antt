@@ -1,5 +1,5 @@
 -- Texts that are written one after the other are one text.
-use mathlib.Core.Path.{_≡_, refl, sym, _∙_}
+use mathlib.Core.Path.{_≡_, refl, sym, ap, _∙_}
 use mathlib.Core.List.{List, [], _∷_, _++_, append-assoc}
 use Prim.Native.Nat.{ℕ, suc, _+_, _≤_, _<_}
 use native.Mathlib.Nat.{add-assoc}
@@ -57,3 +57,9 @@ pub two-wrote : (s : List ℕ) (at a b : ℕ) → at + 1 < length s → Wrote s 
 two-wrote s at a b h =
     let w = before-text s at a (omega arith) (byte-wrote (set s at a) (at + 1) b (simp length-set (omega arith))) in
     record { place = refl; buffer = w .buffer }
+
+-- A text from the start lies within the buffer.
+pub text-within : {s t s′ : List ℕ} {e : ℕ} → Wrote s 0 t s′ e → e ≤ length s′
+unfolding placed
+text-within {s} {t} w =
+    omega (arith, w .place, ap length (w .buffer), length-append (take 0 s ++ t) (drop (0 + length t) s), length-append (take 0 s) t)

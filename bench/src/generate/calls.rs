@@ -1,0 +1,301 @@
+//! Calls that fit the state reached, and now and then one that may not.
+
+use super::{numbers_where, Kind, Maker};
+use crate::calendar::time_of_day;
+use crate::draft::Draft;
+use crate::kernel::State;
+use crate::limits::{DAY, FULL, LONGEST};
+
+type Weights = [(&'static [u8; 2], u32)];
+
+/// How often each call is chosen, by kind of script.
+const EVEN: &Weights = &[
+    (b"AC", 10),
+    (b"TE", 3),
+    (b"SU", 4),
+    (b"PR", 3),
+    (b"CO", 5),
+    (b"EN", 4),
+    (b"RE", 4),
+    (b"RQ", 6),
+    (b"RL", 6),
+    (b"TR", 4),
+    (b"RS", 6),
+    (b"FR", 6),
+    (b"ET", 6),
+    (b"LV", 6),
+    (b"TG", 4),
+    (b"EI", 3),
+    (b"XI", 2),
+    (b"TI", 12),
+];
+
+const CONTENDED: &Weights = &[
+    (b"AC", 8),
+    (b"TE", 1),
+    (b"SU", 3),
+    (b"PR", 1),
+    (b"CO", 6),
+    (b"EN", 1),
+    (b"RE", 2),
+    (b"RQ", 14),
+    (b"RL", 12),
+    (b"TR", 3),
+    (b"RS", 12),
+    (b"FR", 12),
+    (b"ET", 12),
+    (b"LV", 12),
+    (b"TG", 1),
+    (b"EI", 1),
+    (b"XI", 1),
+    (b"TI", 3),
+];
+
+const IDLE: &Weights = &[
+    (b"AC", 14),
+    (b"TE", 3),
+    (b"SU", 2),
+    (b"PR", 2),
+    (b"CO", 2),
+    (b"EN", 8),
+    (b"RE", 4),
+    (b"RQ", 1),
+    (b"RL", 1),
+    (b"TR", 1),
+    (b"RS", 1),
+    (b"FR", 1),
+    (b"ET", 1),
+    (b"LV", 1),
+    (b"TG", 6),
+    (b"EI", 4),
+    (b"XI", 1),
+    (b"TI", 50),
+];
+
+impl Maker {
+    pub fn call(&mut self) -> Draft {
+        if self.random.once_in(15) {
+            let mark = self.mark();
+            return self.loose(mark);
+        }
+        for _ in 0..10 {
+            let mark = self.mark();
+            if let Some(draft) = self.fitting(mark) {
+                return draft;
+            }
+        }
+        Draft::new(b"TI")
+    }
+
+    fn mark(&mut self) -> &'static [u8; 2] {
+        let weights = match self.kind {
+            Kind::Valid | Kind::Damaged => EVEN,
+            Kind::Contended => CONTENDED,
+            Kind::Idle => IDLE,
+        };
+        let total = weights.iter().map(|(_, weight)| weight).sum();
+        let mut left = self.random.below(total);
+        for (mark, weight) in weights {
+            if left < *weight {
+                return mark;
+            }
+            left -= weight;
+        }
+        b"TI"
+    }
+
+    /// A call with this mark that the kernel will accept, if there is one.
+    fn fitting(&mut self, mark: &'static [u8; 2]) -> Option<Draft> {
+        let draft = Draft::new(mark);
+        let needs_runner = b"ENRERQRLTRRSFRETLV".chunks(2).any(|m| m == mark);
+        if needs_runner && self.kernel.running().is_none() {
+            return None;
+        }
+        Some(match mark {
+            b"AC" => return self.activation(),
+            b"TE" => draft.on(self.some_task(|t| t.alive())?),
+            b"SU" => draft.on(self.some_task(|t| t.alive() && t.state != State::Suspended)?),
+            b"PR" => {
+                let any = self.random.once_in(4);
+                draft.on(self.some_task(|t| any || t.schedule.is_some() || t.kept.is_some())?)
+            }
+            b"CO" => {
+                let task = self.some_task(|t| t.held())?;
+                let priority = self.priority_or_none();
+                draft.on(task).priority(priority)
+            }
+            b"RE" => draft.first(self.duration()),
+            b"RQ" | b"TR" | b"RS" | b"ET" => draft.list(&self.wish(mark)?),
+            b"RL" => draft.list(&self.some_of(self.semaphores(|value| value < FULL))?),
+            b"FR" => draft.list(&self.some_of(self.bolts(|writer, _| writer))?),
+            b"LV" => draft.list(&self.some_of(self.bolts(|_, readers| readers > 0))?),
+            b"TG" => draft.on(self.interrupt(true)?),
+            b"EI" => draft.on(self.interrupt(false)?),
+            b"XI" => draft.on(self.interrupt(true)?),
+            _ => draft,
+        })
+    }
+
+    /// A well-formed call about anything declared, or just beyond it.
+    fn loose(&mut self, mark: &'static [u8; 2]) -> Draft {
+        let counts = self.kernel.counts;
+        let draft = Draft::new(mark);
+        let beyond = u32::from(self.random.once_in(8));
+        let mut number = |count: u8| self.random.below(u32::from(count).max(1) + beyond) as u8;
+        match mark {
+            b"AC" => {
+                let task = number(counts.tasks);
+                if self.random.percent(50) {
+                    return draft.on(task);
+                }
+                let mut start = self.scheduled(task);
+                if matches!(start.start_kind, 3 | 4) && self.random.once_in(4) {
+                    start.interrupt = counts.interrupts;
+                }
+                start
+            }
+            b"SU" => {
+                let any = number(counts.tasks);
+                draft.on(self
+                    .some_task(|t| t.state == State::Suspended)
+                    .unwrap_or(any))
+            }
+            b"TE" | b"PR" | b"CO" => draft.on(number(counts.tasks)),
+            b"TG" | b"EI" | b"XI" => draft.on(number(counts.interrupts)),
+            b"RL" => {
+                let any = number(counts.semaphores);
+                let full = self.semaphores(|value| value == FULL);
+                draft.list(&self.some_of(full).unwrap_or(vec![any]))
+            }
+            b"RQ" | b"TR" => draft.list(&[number(counts.semaphores)]),
+            b"RS" | b"FR" | b"ET" | b"LV" => draft.list(&[number(counts.bolts)]),
+            b"RE" => draft.first(self.duration()),
+            _ => draft,
+        }
+    }
+
+    fn activation(&mut self) -> Option<Draft> {
+        let plain = match self.kind {
+            Kind::Contended => 95,
+            Kind::Idle => 20,
+            Kind::Valid | Kind::Damaged => 50,
+        };
+        if self.random.percent(plain) {
+            let task = self.some_task(|t| !t.alive())?;
+            let priority = self.priority_or_none();
+            return Some(Draft::new(b"AC").on(task).priority(priority));
+        }
+        let task = self.some_task(|_| true)?;
+        Some(self.scheduled(task))
+    }
+
+    /// An activation of kind 1 to 5.
+    fn scheduled(&mut self, task: u8) -> Draft {
+        let priority = self.priority_or_none();
+        let draft = Draft::new(b"AC").on(task).priority(priority);
+        let interrupts = u32::from(self.kernel.counts.interrupts);
+        let interrupt = self.random.below(interrupts.max(1)) as u8;
+        let kinds = if interrupts > 0 { 5 } else { 3 };
+        let draft = match self.random.below(kinds) {
+            0 => draft.at(self.time()),
+            1 => draft.after(self.duration()),
+            2 => {
+                let period = self.duration();
+                return self.with_end(draft.all(period));
+            }
+            3 => draft.when(interrupt),
+            _ => draft.when_after(interrupt, self.duration()),
+        };
+        if self.random.percent(40) {
+            return draft;
+        }
+        let period = self.duration();
+        self.with_end(draft.every(period))
+    }
+
+    fn with_end(&mut self, draft: Draft) -> Draft {
+        match self.random.below(3) {
+            0 => draft,
+            1 => draft.until(self.time()),
+            _ => draft.during(self.duration()),
+        }
+    }
+
+    fn priority_or_none(&mut self) -> u8 {
+        match self.random.below(8) {
+            0..=3 => 0,
+            4 => self.random.between(1, 255) as u8,
+            _ => self.random.between(1, 6) as u8,
+        }
+    }
+
+    /// Mostly so short that it runs out within the script.
+    fn duration(&mut self) -> u32 {
+        match self.random.below(12) {
+            0 => 1,
+            1 => self.random.between(1, 200),
+            2 => self
+                .random
+                .pick(&[LONGEST, LONGEST - 1, DAY, DAY - 1, DAY + 1]),
+            3 if self.kind != Kind::Idle => self.random.between(1, LONGEST),
+            _ => self.random.between(1, 12),
+        }
+    }
+
+    /// Mostly a time of day near the present one.
+    fn time(&mut self) -> u32 {
+        let present = time_of_day(self.kernel.at_zero, self.kernel.now);
+        match self.random.below(10) {
+            0 => self.random.below(DAY),
+            1 => self.random.pick(&[0, 1, DAY - 1]),
+            2 => present,
+            3 => (present + DAY - self.random.between(1, 20)) % DAY,
+            _ => (present + self.random.between(0, 25)) % DAY,
+        }
+    }
+
+    /// What the runner asks for. The last runnable task asks only for what it can get.
+    fn wish(&mut self, mark: &[u8; 2]) -> Option<Vec<u8>> {
+        let runnable = self.kernel.declared_tasks().iter().filter(|t| t.runnable());
+        let modest = runnable.count() < 2 || self.random.percent(45);
+        let choices = match mark {
+            b"RQ" | b"TR" => self.semaphores(|value| !modest || value > 0),
+            b"RS" => self.bolts(|writer, readers| !modest || (!writer && readers == 0)),
+            _ => self.bolts(|writer, readers| !modest || (!writer && readers < FULL)),
+        };
+        let mut list = self.some_of(choices)?;
+        if mark == b"TR" {
+            list.truncate(1);
+        }
+        Some(list)
+    }
+
+    /// One to four of the choices, in any order.
+    fn some_of(&mut self, mut choices: Vec<u8>) -> Option<Vec<u8>> {
+        self.random.shuffle(&mut choices);
+        choices.truncate(self.random.between(1, 4) as usize);
+        if choices.is_empty() {
+            None
+        } else {
+            Some(choices)
+        }
+    }
+
+    fn semaphores(&self, fits: impl Fn(u16) -> bool) -> Vec<u8> {
+        let count = usize::from(self.kernel.counts.semaphores);
+        numbers_where(&self.kernel.semaphores[..count], |&value| fits(value))
+    }
+
+    fn bolts(&self, fits: impl Fn(bool, u16) -> bool) -> Vec<u8> {
+        let count = usize::from(self.kernel.counts.bolts);
+        numbers_where(&self.kernel.bolts[..count], |b| fits(b.writer, b.readers))
+    }
+
+    /// Mostly one that is enabled, or disabled, as wanted.
+    fn interrupt(&mut self, enabled: bool) -> Option<u8> {
+        let any = self.random.once_in(4);
+        let count = usize::from(self.kernel.counts.interrupts);
+        let fitting = numbers_where(&self.kernel.enabled[..count], |&e| any || e == enabled);
+        self.one_of(&fitting)
+    }
+}

@@ -1,0 +1,102 @@
+//! Refusal 1: is the kernel value one that may be worked with?
+//!
+//! The same pass over the tasks finds the running one. What the types rule
+//! out, such as a priority of 0, a semaphore above 65,535 or a terminated task
+//! that is held, needs no test.
+
+use crate::calendar::{is_duration, is_time_of_day};
+use crate::kernel::{End, Kernel, List, Origin, Schedule, State, Task, Wait};
+use crate::limits::{BOLTS, INTERRUPTS, LAST_INSTANT, LAST_TICK, LIST, LONGEST, SEMAPHORES, TASKS};
+use crate::runner::Runner;
+
+pub struct Unsound;
+
+impl Kernel {
+    /// The running task of a sound kernel.
+    ///
+    /// A function of its own, so that its loop keeps all it needs in registers.
+    #[inline(never)]
+    pub fn survey(&self) -> Result<Option<u8>, Unsound> {
+        if !self.frame_is_sound() {
+            return Err(Unsound);
+        }
+        let mut runner = Runner::none();
+        for (i, task) in self.declared_tasks().iter().enumerate() {
+            if task.runnable() {
+                runner.consider(i, task.current);
+            } else if !self.pause_is_sound(task) {
+                return Err(Unsound);
+            }
+            if let Some(schedule) = &task.schedule {
+                if !self.schedule_is_sound(schedule) {
+                    return Err(Unsound);
+                }
+            }
+        }
+        Ok(runner.number())
+    }
+
+    fn frame_is_sound(&self) -> bool {
+        usize::from(self.counts.tasks) <= TASKS
+            && usize::from(self.counts.semaphores) <= SEMAPHORES
+            && usize::from(self.counts.bolts) <= BOLTS
+            && usize::from(self.counts.interrupts) <= INTERRUPTS
+            && self.now <= LAST_TICK
+            && is_time_of_day(self.at_zero)
+    }
+
+    /// What keeps a task from running.
+    #[inline(never)]
+    fn pause_is_sound(&self, task: &Task) -> bool {
+        let state_is_sound = match task.state {
+            State::Terminated => {
+                return task.kept.is_none() && matches!(task.wait, Wait::Nothing);
+            }
+            State::Unheld | State::Suspended => true,
+            State::DelayedUntil(instant) => instant <= LAST_INSTANT,
+        };
+        state_is_sound
+            && match &task.wait {
+                Wait::Nothing => true,
+                Wait::Request(list) => {
+                    may_wait(list, self.counts.semaphores, |s| self.can_request(s))
+                }
+                Wait::Reserve(list) => may_wait(list, self.counts.bolts, |b| self.can_reserve(b)),
+                Wait::Enter(list) => may_wait(list, self.counts.bolts, |b| self.can_enter(b)),
+            }
+    }
+
+    #[inline]
+    fn schedule_is_sound(&self, schedule: &Schedule) -> bool {
+        schedule.period <= LONGEST
+            && match schedule.origin {
+                Origin::Clock => true,
+                Origin::Interrupt(i) => i < self.counts.interrupts,
+                Origin::InterruptAfter(i, pause) => {
+                    i < self.counts.interrupts && is_duration(pause)
+                }
+            }
+            && match schedule.end {
+                End::Never => true,
+                End::Until(time) => is_time_of_day(time),
+                End::During(length) => is_duration(length),
+            }
+            && schedule.next <= LAST_INSTANT
+            && schedule.last <= LAST_INSTANT
+    }
+}
+
+/// A list that may wait: one to four different numbers below `count`, not all open.
+#[inline(always)]
+fn may_wait(list: &List, count: u8, open: impl Fn(usize) -> bool) -> bool {
+    let mut seen = 0u32;
+    let mut some_closed = false;
+    for &number in list.numbers() {
+        if number >= count || seen & (1 << number) != 0 {
+            return false;
+        }
+        seen |= 1 << number;
+        some_closed |= !open(usize::from(number));
+    }
+    some_closed && usize::from(list.length) <= LIST
+}

@@ -1,0 +1,304 @@
+//! One record carried out, or refused without a trace.
+
+use crate::answer::{Answer, Sets};
+use crate::calendar::next_showing;
+use crate::kernel::{Bolt, End, Kernel, List, Origin, Priority, Schedule, State, Task, Wait};
+use crate::limits::{BOLTS, FULL, INTERRUPTS, LAST_TICK, SEMAPHORES, TASKS};
+use crate::record::{Mark, Record};
+
+/// A refusal number from 2 to 15.
+type Refusal = u8;
+
+/// Whether a record leaves the running task as it was.
+enum Runner {
+    Stays,
+    MayChange,
+}
+
+impl Kernel {
+    pub fn step(&mut self, bytes: &[u8]) -> Answer {
+        let Ok(running) = self.survey() else {
+            return Answer::refusal(1, None);
+        };
+        let mut sets = Sets::default();
+        match self.carry_out(bytes, running, &mut sets) {
+            Err(number) => Answer::refusal(number, running),
+            Ok(Runner::Stays) => Answer {
+                number: 0,
+                running,
+                sets,
+            },
+            Ok(Runner::MayChange) => Answer {
+                number: 0,
+                running: self.running(),
+                sets,
+            },
+        }
+    }
+
+    fn carry_out(
+        &mut self,
+        bytes: &[u8],
+        running: Option<u8>,
+        sets: &mut Sets,
+    ) -> Result<Runner, Refusal> {
+        let record = Record::read(bytes).ok_or(2)?;
+        refuse_if(record.mark.declares() && self.called, 2)?;
+        refuse_if(!record.fields_are_good(), 3)?;
+        refuse_if(!record.list_is_good(), 4)?;
+        refuse_if(!self.names_are_declared(&record), 5)?;
+        refuse_if(!record.times_are_good(), 6)?;
+        if record.mark.declares() {
+            self.declare(&record)?;
+            return Ok(Runner::Stays);
+        }
+        let runner = self.call(&record, running, sets)?;
+        self.called = true;
+        Ok(runner)
+    }
+
+    /// Refusal 5.
+    fn names_are_declared(&self, record: &Record) -> bool {
+        let all_below = |count: u8| record.list.numbers().iter().all(|&n| n < count);
+        match record.mark {
+            Mark::Activate => {
+                let needs_interrupt = matches!(record.start_kind, 3 | 4);
+                record.number < self.counts.tasks
+                    && (!needs_interrupt || record.interrupt < self.counts.interrupts)
+            }
+            Mark::Terminate | Mark::Suspend | Mark::Prevent | Mark::Continue => {
+                record.number < self.counts.tasks
+            }
+            Mark::Trigger | Mark::Enable | Mark::Disable => record.number < self.counts.interrupts,
+            Mark::Request | Mark::Release | Mark::Try => all_below(self.counts.semaphores),
+            Mark::Reserve | Mark::Free | Mark::Enter | Mark::Leave => all_below(self.counts.bolts),
+            _ => true,
+        }
+    }
+
+    fn declare(&mut self, record: &Record) -> Result<(), Refusal> {
+        match record.mark {
+            Mark::DeclareTask => {
+                let place = next_place(&mut self.counts.tasks, TASKS)?;
+                let priority = Priority::new(record.priority).ok_or(3)?;
+                self.tasks[place] = Task::declared(priority);
+            }
+            Mark::DeclareSemaphore => {
+                let place = next_place(&mut self.counts.semaphores, SEMAPHORES)?;
+                self.semaphores[place] = record.first as u16;
+            }
+            Mark::DeclareBolt => {
+                let place = next_place(&mut self.counts.bolts, BOLTS)?;
+                self.bolts[place] = Bolt::default();
+            }
+            Mark::DeclareInterrupt => {
+                let place = next_place(&mut self.counts.interrupts, INTERRUPTS)?;
+                self.enabled[place] = false;
+            }
+            _ => self.at_zero = record.first,
+        }
+        Ok(())
+    }
+
+    fn call(
+        &mut self,
+        record: &Record,
+        running: Option<u8>,
+        sets: &mut Sets,
+    ) -> Result<Runner, Refusal> {
+        let i = usize::from(record.number);
+        match record.mark {
+            Mark::Activate => self.activate(record, sets)?,
+            Mark::Terminate => {
+                refuse_if(!self.tasks[i].alive(), 10)?;
+                self.end_task(i, sets);
+            }
+            Mark::Suspend => {
+                let task = &mut self.tasks[i];
+                refuse_if(!task.alive(), 10)?;
+                refuse_if(task.state == State::Suspended, 11)?;
+                task.state = State::Suspended;
+            }
+            Mark::Prevent => {
+                let task = &mut self.tasks[i];
+                task.schedule = None;
+                if task.kept.take().is_some() {
+                    sets.lost |= 1 << i;
+                }
+                return Ok(Runner::Stays);
+            }
+            Mark::Continue => {
+                let task = &mut self.tasks[i];
+                refuse_if(!task.alive(), 10)?;
+                refuse_if(!task.held(), 12)?;
+                task.state = State::Unheld;
+                task.current = Priority::new(record.priority).unwrap_or(task.current);
+            }
+            Mark::EndSelf => {
+                let runner = running.ok_or(8)?;
+                self.end_task(usize::from(runner), sets);
+            }
+            Mark::Resume => {
+                let runner = running.ok_or(8)?;
+                let until = self.now + u64::from(record.first);
+                self.tasks[usize::from(runner)].state = State::DelayedUntil(until);
+            }
+            Mark::Request => return self.ask(running, Wait::Request(record.list), sets),
+            Mark::Reserve => return self.ask(running, Wait::Reserve(record.list), sets),
+            Mark::Enter => return self.ask(running, Wait::Enter(record.list), sets),
+            Mark::Try => {
+                let runner = running.ok_or(8)?;
+                self.try_take(runner, &Wait::Request(record.list), sets);
+                return Ok(Runner::Stays);
+            }
+            Mark::Release => {
+                running.ok_or(8)?;
+                self.release(&record.list)?;
+                return Ok(self.serve_all(sets));
+            }
+            Mark::Free => {
+                running.ok_or(8)?;
+                self.free(&record.list)?;
+                return Ok(self.serve_all(sets));
+            }
+            Mark::Leave => {
+                running.ok_or(8)?;
+                self.leave(&record.list)?;
+                return Ok(self.serve_all(sets));
+            }
+            Mark::Trigger => {
+                if self.enabled[i] {
+                    self.trigger(record.number, sets);
+                }
+            }
+            Mark::Enable | Mark::Disable => {
+                self.enabled[i] = record.mark == Mark::Enable;
+                return Ok(Runner::Stays);
+            }
+            _ => {
+                refuse_if(self.now >= LAST_TICK, 15)?;
+                if !self.tick(sets) {
+                    return Ok(Runner::Stays);
+                }
+            }
+        }
+        Ok(Runner::MayChange)
+    }
+
+    fn activate(&mut self, record: &Record, sets: &mut Sets) -> Result<(), Refusal> {
+        let i = usize::from(record.number);
+        let priority = Priority::new(record.priority).unwrap_or(self.tasks[i].declared);
+        if record.start_kind == 0 {
+            refuse_if(self.tasks[i].alive(), 9)?;
+            self.tasks[i].start_due(i, priority, sets);
+            return Ok(());
+        }
+        let schedule = Schedule {
+            priority,
+            origin: match record.start_kind {
+                3 => Origin::Interrupt(record.interrupt),
+                4 => Origin::InterruptAfter(record.interrupt, record.first),
+                _ => Origin::Clock,
+            },
+            period: record.period,
+            end: match record.end_kind {
+                0 => End::Never,
+                1 => End::Until(record.end),
+                _ => End::During(record.end),
+            },
+            next: 0,
+            last: 0,
+        };
+        match record.start_kind {
+            1 => {
+                let first = next_showing(self.at_zero, self.now, record.first);
+                self.set_going(i, schedule, first, sets);
+            }
+            2 => self.set_going(i, schedule, self.now + u64::from(record.first), sets),
+            5 => self.set_going(i, schedule, self.now, sets),
+            _ => self.tasks[i].schedule = Some(schedule),
+        }
+        Ok(())
+    }
+
+    /// Ends a living task; a start kept back takes its place at once.
+    fn end_task(&mut self, i: usize, sets: &mut Sets) {
+        let task = &mut self.tasks[i];
+        sets.ended |= 1 << i;
+        task.state = State::Terminated;
+        task.wait = Wait::Nothing;
+        task.current = task.declared;
+        if let Some(priority) = task.kept.take() {
+            task.start(priority);
+            sets.started |= 1 << i;
+        }
+    }
+
+    /// The runner gets what it asks for, or waits for it.
+    fn ask(
+        &mut self,
+        running: Option<u8>,
+        wanted: Wait,
+        sets: &mut Sets,
+    ) -> Result<Runner, Refusal> {
+        let runner = running.ok_or(8)?;
+        if self.try_take(runner, &wanted, sets) {
+            return Ok(Runner::Stays);
+        }
+        self.tasks[usize::from(runner)].wait = wanted;
+        Ok(Runner::MayChange)
+    }
+
+    /// After something was given back.
+    fn serve_all(&mut self, sets: &mut Sets) -> Runner {
+        self.serve(sets);
+        if sets.granted == 0 {
+            Runner::Stays
+        } else {
+            Runner::MayChange
+        }
+    }
+
+    fn release(&mut self, list: &List) -> Result<(), Refusal> {
+        let full = |&s: &u8| self.semaphores[usize::from(s)] == FULL;
+        refuse_if(list.numbers().iter().any(full), 13)?;
+        for &s in list.numbers() {
+            self.semaphores[usize::from(s)] += 1;
+        }
+        Ok(())
+    }
+
+    fn free(&mut self, list: &List) -> Result<(), Refusal> {
+        let unwritten = |&b: &u8| !self.bolts[usize::from(b)].writer;
+        refuse_if(list.numbers().iter().any(unwritten), 14)?;
+        for &b in list.numbers() {
+            self.bolts[usize::from(b)].writer = false;
+        }
+        Ok(())
+    }
+
+    fn leave(&mut self, list: &List) -> Result<(), Refusal> {
+        let unread = |&b: &u8| self.bolts[usize::from(b)].readers == 0;
+        refuse_if(list.numbers().iter().any(unread), 14)?;
+        for &b in list.numbers() {
+            self.bolts[usize::from(b)].readers -= 1;
+        }
+        Ok(())
+    }
+}
+
+fn refuse_if(wrong: bool, number: Refusal) -> Result<(), Refusal> {
+    if wrong {
+        Err(number)
+    } else {
+        Ok(())
+    }
+}
+
+/// Counts one more, or refuses if the table is full.
+fn next_place(count: &mut u8, room: usize) -> Result<usize, Refusal> {
+    let place = usize::from(*count);
+    refuse_if(place >= room, 7)?;
+    *count += 1;
+    Ok(place)
+}

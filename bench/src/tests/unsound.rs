@@ -1,0 +1,119 @@
+//! Kernel values that get refusal 1, and odd ones that don't.
+
+use super::{after, r, semaphore, task};
+use crate::answer::Answer;
+use crate::kernel::{Kernel, List, Priority, State, Wait};
+use crate::limits::{DAY, LAST_INSTANT, LAST_TICK, LONGEST};
+
+fn kernel() -> Kernel {
+    after(&[
+        task(1),
+        task(2),
+        semaphore(0),
+        semaphore(1),
+        r(b"DB"),
+        r(b"IT"),
+        r(b"AC").on(0),
+        r(b"AC").on(0).when_after(0, 5).every(3).during(9),
+    ])
+}
+
+fn number_after(change: impl Fn(&mut Kernel)) -> u8 {
+    let mut kernel = kernel();
+    change(&mut kernel);
+    let before = kernel.clone();
+    let answer = kernel.step(b"not a record");
+    if answer.number == 1 {
+        assert_eq!(answer, Answer::refusal(1, None));
+    }
+    assert_eq!(kernel, before);
+    answer.number
+}
+
+fn waiting(numbers: &[u8], length: u8) -> u8 {
+    let mut list = List::default();
+    list.places[..numbers.len()].copy_from_slice(numbers);
+    list.length = length;
+    number_after(|k| k.tasks[0].wait = Wait::Request(list))
+}
+
+#[test]
+fn the_kernel_itself_is_sound() {
+    assert_eq!(number_after(|_| {}), 2);
+}
+
+#[test]
+fn counts_and_clocks() {
+    assert_eq!(number_after(|k| k.counts.tasks = 33), 1);
+    assert_eq!(number_after(|k| k.counts.semaphores = 17), 1);
+    assert_eq!(number_after(|k| k.counts.bolts = 17), 1);
+    assert_eq!(number_after(|k| k.counts.interrupts = 9), 1);
+    assert_eq!(number_after(|k| k.now = LAST_TICK), 2);
+    assert_eq!(number_after(|k| k.now = LAST_TICK + 1), 1);
+    assert_eq!(number_after(|k| k.at_zero = DAY), 1);
+}
+
+#[test]
+fn terminated_tasks() {
+    let one = List {
+        length: 1,
+        ..List::default()
+    };
+    assert_eq!(number_after(|k| k.tasks[1].kept = Some(Priority::MIN)), 1);
+    assert_eq!(number_after(|k| k.tasks[1].wait = Wait::Request(one)), 1);
+    assert_eq!(number_after(|k| k.tasks[2].kept = Some(Priority::MIN)), 2);
+}
+
+#[test]
+fn wait_lists() {
+    assert_eq!(waiting(&[0], 1), 2);
+    assert_eq!(waiting(&[1, 0], 2), 2);
+    assert_eq!(waiting(&[], 0), 1);
+    assert_eq!(waiting(&[0, 0], 2), 1);
+    assert_eq!(waiting(&[0, 2], 2), 1);
+    assert_eq!(waiting(&[1], 1), 1);
+    assert_eq!(waiting(&[0, 1], 5), 1);
+}
+
+#[test]
+fn grantable_bolts() {
+    let one = List {
+        length: 1,
+        ..List::default()
+    };
+    for wait in [Wait::Reserve(one), Wait::Enter(one)] {
+        assert_eq!(number_after(|k| k.tasks[0].wait = wait), 1);
+        assert_eq!(
+            number_after(|k| {
+                k.tasks[0].wait = wait;
+                k.bolts[0].writer = true;
+                k.bolts[0].readers = 3;
+            }),
+            2
+        );
+    }
+}
+
+#[test]
+fn instants() {
+    let delayed = |instant| number_after(|k| k.tasks[0].state = State::DelayedUntil(instant));
+    assert_eq!(delayed(LAST_INSTANT), 2);
+    assert_eq!(delayed(LAST_INSTANT + 1), 1);
+    assert_eq!(delayed(0), 2);
+}
+
+#[test]
+fn schedules() {
+    use crate::kernel::{End, Origin, Schedule};
+    let with =
+        |change: fn(&mut Schedule)| number_after(|k| change(k.tasks[0].schedule.as_mut().unwrap()));
+    assert_eq!(with(|s| s.period = LONGEST + 1), 1);
+    assert_eq!(with(|s| s.origin = Origin::Interrupt(1)), 1);
+    assert_eq!(with(|s| s.origin = Origin::InterruptAfter(0, 0)), 1);
+    assert_eq!(with(|s| s.origin = Origin::InterruptAfter(1, 1)), 1);
+    assert_eq!(with(|s| s.end = End::Until(DAY)), 1);
+    assert_eq!(with(|s| s.end = End::During(0)), 1);
+    assert_eq!(with(|s| s.next = LAST_INSTANT + 1), 1);
+    assert_eq!(with(|s| s.last = LAST_INSTANT + 1), 1);
+    assert_eq!(with(|s| s.next = LAST_INSTANT), 2);
+}

@@ -1,0 +1,2 @@
+-- The balance of what `Rack::fresh` and `Rack::step` hand back.
+pub mod Delivered

@@ -1,0 +1,1 @@
+// The balance of what the code hands back. It has no code of its own.

@@ -1,0 +1,1 @@
+"""The parts of rackscript: records, text, answers and the two reports."""
