@@ -1,27 +1,27 @@
 -- What a call or declaration that no formal ground refuses has passed, and what it comes to by its mark.
 use mathlib.Core.Path.{_≡_, refl, sym, ap, _∙_}
-use mathlib.Core.Bool.{true, false, _&&_}
+use mathlib.Core.Bool.{true, false, cond, _&&_}
 use mathlib.Core.List.{List, [], _∷_}
 use Prim.Native.Nat.{ℕ, zero, suc, _≤_, _<_, _%_}
 use lib.Dec.{leb, ltb}
-use lib.ListN.{take}
+use lib.ListN.{take, drop}
 use native.Mathlib.Omega.{arith}
 use borrow.Author.Tests.{leb-true, ltb-true, eqb-true}
 use Rattle.layout.specs.declared.Call.{Call}
 use Rattle.layout.specs.declared.Head.{Head}
 use Rattle.layout.specs.declared.Mark.{Mark}
-use Rattle.layout.specs.declared.Mark.the-variants.{DS, AC}
+use Rattle.layout.specs.declared.Mark.the-variants.{DS, DC, AC}
 use Rattle.layout.specs.declared.Form.the-variants.{Preset, Numbers, OneNumber}
 use Rattle.layout.specs.Marks.{form}
-use Rattle.record.specs.Lists.{distinct, names}
+use Rattle.record.specs.Lists.{distinct, names, allZero}
 use Rattle.record.specs.Reading.{callWith, opened}
 use Rattle.record.specs.declared.Read.the-variants.{Refused, Accepted}
 use Rattle.record.specs.declared.Reading.{Reading}
-use Rattle.record.specs.Refusals.{mostNumbers, mostValue, formedAs, formed, listed, ranged, uses, cleanNames, cleanStart, shape}
+use Rattle.record.specs.Refusals.{mostNumbers, mostValue, formedAs, formed, listed, ranged, uses, orZero, cleanNames, cleanStart, shape}
 use Rattle.record.proofs.OpenedLaws.{Opening, opens}
 use Rattle.record.proofs.OpenedLaws.Opening.{unsized, unmarked, marked}
 use Rattle.lock.proofs.Bools.{both}
-use Rattle.kernel.specs.Refusals.{declaredIn, roomFor, formalRefusal, stateRefusalOf, refusalOf}
+use Rattle.kernel.specs.Refusals.{declares, declaredIn, roomFor, formalRefusal, stateRefusalOf, refusalOf}
 use Rattle.kernel.specs.Running.{runner}
 use Rattle.kernel.specs.Test.{valid}
 use Rattle.kernel.specs.Step.{refuse, declared, orRefuse, carryOut, carryOn, stepRead, step}
@@ -37,6 +37,10 @@ distinct-one : (l : List ℕ) → distinct (take 1 l) ≡ true
 unfolding distinct names
 distinct-one [] = refl
 distinct-one (x ∷ l) = refl
+
+-- A declaration that is none of the first four.
+pub last-declared : (m : Mark) → DC ≡ cond (declares m) m DC → declares m ≡ true → m ≡ DC
+last-declared m e d = sym (e ∙ ap (λ b. cond b m DC) d)
 
 module _ (day : ℕ) (k : Kernel) (h : Head) (l : List ℕ) where
   -- ---- what it comes to
@@ -76,7 +80,7 @@ module _ (day : ℕ) (k : Kernel) (h : Head) (l : List ℕ) where
         (a .0, unless-passed (listed (form (h .mark)) (callWith h l)) 3 0 (a .1) .0)
 
     -- The list's length and numbers.
-    abbrev Listed : Type 0
+    abbrev pub Listed : Type 0
     Listed = (1 ≤ h .len) × ((h .len ≤ mostNumbers) × (distinct (take (h .len) l) ≡ true))
 
     pub list-some : {m : Mark} → h .mark ≡ m → form m ≡ Numbers → Listed
@@ -90,6 +94,17 @@ module _ (day : ℕ) (k : Kernel) (h : Head) (l : List ℕ) where
     list-one e g =
         let a = eqb-true (h .len) 1 (rw (e, g) at (shaped .1)) in
         (omega (arith, a), (short, rw a (distinct-one l)))
+
+    -- A call of a form without a list names nothing.
+    pub no-list : {m : Mark} → h .mark ≡ m → uses (form m) h .list ≡ false → h .len ≡ 0
+    unfolding formed cleanNames
+    no-list {m} e n =
+        let g = sym (ap (λ (m : Mark). formedAs (form m) (callWith h l)) e) ∙ shaped .0 in
+        let u = uses (form m) h in
+        let others = orZero (u .number) (h .number) && orZero (u .priority) (h .priority) in
+        let a = both (cleanNames u (callWith h l)) (cleanStart u h && ranged (form m) h) g .0 in
+        let b = both (others && orZero (u .list) (h .len)) (allZero (drop (h .len) l)) a .0 in
+        eqb-true (h .len) 0 (sym (ap (λ x. orZero x (h .len)) n) ∙ both others (orZero (u .list) (h .len)) b .1)
 
     preset-fits : h .mark ≡ DS → h .first ≤ mostValue
     unfolding formed ranged

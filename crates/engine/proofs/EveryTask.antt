@@ -1,6 +1,6 @@
 -- The turns of all tasks, one after the other: what the tables and the sets are with the first i turns made.
 use mathlib.Core.Path.{_≡_, refl, sym, _∙_, ap}
-use mathlib.Core.Bool.{Bool, true, false, _&&_}
+use mathlib.Core.Bool.{Bool, true, false}
 use mathlib.Core.List.{List, [], _∷_, _++_, map}
 use Prim.Native.Nat.{ℕ, zero, suc, _+_, _*_, _^_, _≤_, _<_}
 use native.Mathlib.Nat.{not-suc-le-zero, pow-suc, one-mul}
@@ -9,15 +9,13 @@ use native.Mathlib.Omega.{arith}
 use lib.Bits.{bitOr, or-shifted-r}
 use lib.ListN.{length, take, drop, set, length-map}
 use lib.Seq.{length-take-le, set-getD}
-use lib.Dec.{leb}
-use borrow.Author.Tests.{leb-true, lt-ltb, le-ltb}
-use Rattle.calendar.specs.Limits.{lastInstant, isTimeOfDay}
+use borrow.Author.Tests.{lt-ltb, le-ltb}
+use Rattle.calendar.specs.Limits.{lastInstant}
 use Rattle.calendar.specs.declared.Instant.{Instant}
-use Rattle.record.specs.Refusals.{mostValue}
 use Rattle.layout.specs.declared.Mark.the-variants.{TI}
 use Rattle.layout.specs.declared.Call.{Call}
-use Rattle.lock.specs.Locks.{bit, valueAt, boltAt}
-use Rattle.lock.proofs.Bools.{both, and-both}
+use Rattle.lock.specs.Locks.{bit}
+use Rattle.lock.proofs.Bools.{and-both}
 use Rattle.task.specs.State.{noTask}
 use Rattle.task.specs.Turns.{unmarked, triggerTurn}
 use Rattle.task.specs.declared.Task.{Task}
@@ -26,11 +24,10 @@ use Rattle.kernel.specs.Sets.{setOf}
 use Rattle.kernel.specs.State.{mostTasks, taskAt, enabledAt, withState}
 use Rattle.kernel.specs.Work.{noWork, turns, everyTurn}
 use Rattle.kernel.specs.Running.{runner}
-use Rattle.kernel.specs.Test.{isPriority, keptOk, holdOk, restOk, waitOk, scheduleOk, taskOk, allBelow, countsOk, nobodyServable, valid}
+use Rattle.kernel.specs.Test.{valid}
 use Rattle.kernel.specs.Refusals.{stateRefusalOf}
 use Rattle.kernel.specs.Calls.{trigger}
 use Rattle.kernel.specs.Step.{refuse, finish, orRefuse}
-use Rattle.kernel.specs.declared.Counts.{Counts}
 use Rattle.kernel.specs.declared.Kernel.{Kernel}
 use Rattle.kernel.specs.declared.Stepped.{Stepped}
 use Rattle.kernel.proofs.Below.{all-at, all-from}
@@ -40,8 +37,9 @@ use Rattle.kernel.proofs.Works.{turn-at}
 use Rattle.kernel.proofs.Sets.{setOf-lt}
 use Rattle.survey.proofs.TestLaws.{wait-of}
 use Rattle.survey.specs.Looks.{putIf, waitsOk}
-use Rattle.engine.specs.Inner.{marksOf, workHere}
-use Rattle.engine.specs.declared.serving.Marks.{Marks}
+use Rattle.serving.specs.Ends.{marksOf, workHere}
+use Rattle.serving.specs.declared.ends.Marks.{Marks}
+use Rattle.engine.proofs.TurnCases.{sound}
 
 -- ---- a set with one more place
 
@@ -185,26 +183,6 @@ unfolding finish everyTurn
 every-finish k n f a b = rw (a, b)
 
 module _ (day : ℕ) (k : Kernel) (v : valid day k ≡ true) where
-  parts : (k .now .0 ≤ lastInstant) × (countsOk (k .counts) ≡ true) × (allBelow (k .counts .tasks) (λ i. taskOk day (k .counts) (taskAt (k .tasks) i)) ≡ true)
-  unfolding valid
-  parts =
-      let n = k .counts in
-      let a = both _ (nobodyServable k) v in
-      let b = both _ (allBelow (n .tasks) (λ i. taskOk day n (taskAt (k .tasks) i))) (a .0) in
-      let c = both _ (allBelow (n .bolts) (λ b. leb (boltAt (k .locks) b .readers) mostValue)) (b .0) in
-      let d = both _ (allBelow (n .semaphores) (λ s. leb (valueAt (k .locks) s) mostValue)) (c .0) in
-      let f = both (leb (k .now .0) lastInstant && isTimeOfDay day (k .clock)) (countsOk n) (d .0) in
-      (leb-true _ _ (both (leb (k .now .0) lastInstant) (isTimeOfDay day (k .clock)) (f .0) .0), f .1, b .1)
-
-  pub now-in : k .now .0 ≤ lastInstant
-  now-in = parts .0
-
-  pub waits-in : waitsOk k ≡ true
-  unfolding waitsOk
-  waits-in =
-      and-both (parts .1)
-      (all-from (k .counts .tasks) _ (λ i l. wait-of day (k .counts) (taskAt (k .tasks) i) (all-at (k .counts .tasks) _ (parts .2) i l)))
-
   -- Turns that keep the limits of a task keep the limits of the waits.
   pub every-waits : length (k .tasks) ≡ mostTasks → (n : Instant) (f : Task → Turn)
       → ((t : Task) → TaskOk day (k .counts) t → TaskOk day (k .counts) (f t .task))
@@ -213,10 +191,10 @@ module _ (day : ℕ) (k : Kernel) (v : valid day k ≡ true) where
   every-waits long n f keeps a =
       let room : k .counts .tasks ≤ length (k .tasks) = omega (arith, long, tested day k v .fits .tasks) in
       rw a
-      (and-both (parts .1)
+      (and-both (sound day k v .counts)
       (all-from (k .counts .tasks) _
       (λ i l. rw (turn-at (k .counts .tasks) f (k .tasks) room i l)
-      (wait-of day (k .counts) _ (task-test day (k .counts) _ (keeps (taskAt (k .tasks) i) (task-untest day (k .counts) (taskAt (k .tasks) i) (all-at (k .counts .tasks) _ (parts .2) i l))))))))
+      (wait-of day (k .counts) _ (task-test day (k .counts) _ (keeps (taskAt (k .tasks) i) (task-untest day (k .counts) (taskAt (k .tasks) i) (all-at (k .counts .tasks) _ (sound day k v .tasks) i l))))))))
 
 -- ---- a tick at the last instant is refused
 

@@ -1,10 +1,9 @@
 -- Laws that the proofs of the code share.
-pub mod WaitLaws
-pub mod ServeLaws
 pub mod MarkLaws
 pub mod RefusalLaws
 pub mod TurnCases
 pub mod AskLaws
 pub mod EveryTask
 pub mod CallLaws
+pub mod ChangeLaws
 pub mod StirLaws

@@ -8,27 +8,19 @@ ghost use Rattle.kernel.specs.Test.{valid};
 ghost use Rattle.kernel.specs.Refusals.{formalRefusal};
 ghost use Rattle.kernel.specs.Step.{step};
 ghost use Rattle.engine.specs.Inner.{accordingly};
-use crate::asking::asked;
-use crate::asking::enabled_as;
-use crate::asking::given;
+use crate::changes::change_of;
+use crate::changes::marks_of;
+use crate::changes::place_of;
+use crate::clock::enabled_as;
 use crate::clock::ticked;
 use crate::clock::triggered;
-use crate::declarations::add_bolt;
-use crate::declarations::add_interrupt;
-use crate::declarations::add_semaphore;
-use crate::declarations::add_task;
 use crate::declarations::answered;
-use crate::declarations::set_clock;
+use crate::declarations::declared;
 use crate::quiet::is_tick;
 use crate::quiet::quiet_tick;
 use crate::refusals::formal_refusal;
-use crate::turns::activated;
-use crate::turns::continued;
-use crate::turns::ended;
-use crate::turns::prevented;
-use crate::turns::resumed;
-use crate::turns::suspended;
-use crate::turns::terminated;
+use crate::refusals::is_declaration;
+use crate::refusals::state_refusal;
 use calendar::LAST_INSTANT;
 use kernel::Kernel;
 use kernel::Running;
@@ -36,10 +28,10 @@ use kernel::Stepped;
 use layout::Head;
 use layout::Mark;
 use layout::Numbers;
-use lock::Wait;
 use record::Read;
 use record::reader::open;
 use record::shape::shape_at;
+use serving::ends::finished;
 use survey::look::survey;
 
 // A call or declaration that no formal ground refuses: its state refusals, or what it does.
@@ -50,31 +42,31 @@ fn carry_out(k: Kernel, h: Head, list: Numbers, r: Running) -> Stepped
     ensures { λ s. ⌜ s ≡ accordingly day k (callWith h list) ⌝ }
 {
     let mark = h.mark;
-    let i = h.number as usize;
+    if is_declaration(mark) {
+        return declared(k, h, r);
+    }
+    let i = place_of(h, r);
+    let t = k.tasks[i];
+    let locks = k.locks;
+    let now = k.now;
+    let number = state_refusal(h, list, r, t, locks, now);
+    if number != 0 {
+        return answered(k, number, r);
+    }
     match mark {
-        Mark::DT => answered(add_task(k, h.priority), 0, r),
-        Mark::DS => answered(add_semaphore(k, (h.first % 65536) as u16), 0, r),
-        Mark::DB => answered(add_bolt(k), 0, r),
-        Mark::IT => answered(add_interrupt(k), 0, r),
-        Mark::DC => answered(set_clock(k, h.first), 0, r),
-        Mark::AC => activated(k, h, r),
-        Mark::TE => terminated(k, h, r),
-        Mark::SU => suspended(k, h, r),
-        Mark::PR => prevented(k, h, r),
-        Mark::CO => continued(k, h, r),
-        Mark::EN => ended(k, h, r),
-        Mark::RE => resumed(k, h, r),
-        Mark::RQ => asked(k, true, Wait::Request, h, list, r),
-        Mark::RL => given(k, Wait::Request, 13, h, list, r),
-        Mark::TR => asked(k, false, Wait::Request, h, list, r),
-        Mark::RS => asked(k, true, Wait::Reserve, h, list, r),
-        Mark::FR => given(k, Wait::Reserve, 14, h, list, r),
-        Mark::ET => asked(k, true, Wait::Enter, h, list, r),
-        Mark::LV => given(k, Wait::Enter, 14, h, list, r),
         Mark::TG => triggered(k, h.number),
-        Mark::EI => enabled_as(k, i, true),
-        Mark::XI => enabled_as(k, i, false),
+        Mark::EI => enabled_as(k, h.number as usize, true),
+        Mark::XI => enabled_as(k, h.number as usize, false),
         Mark::TI => ticked(k, r),
+        _ => {
+            let c = change_of(h, list, t, locks, k.clock, now);
+            let task = c.task;
+            let locks = c.locks;
+            let mut next = k;
+            next.tasks[i] = task;
+            next.locks = locks;
+            finished(next, marks_of(i, c))
+        }
     }
 }
 

@@ -1,4 +1,4 @@
-// Calls that give every task its turn: TI and TG.
+// The calls that aren't about one task: TI and TG give every task its turn, EI and XI none.
 ghost use mathlib.Core.Path.{_≡_};
 ghost use mathlib.Core.Bool.{true};
 ghost use Prim.Native.Nat.{_≤_, _<_};
@@ -9,23 +9,23 @@ ghost use Rattle.kernel.specs.Running.{runner};
 ghost use Rattle.kernel.specs.Test.{valid};
 ghost use Rattle.kernel.specs.Refusals.{stateRefusalOf};
 ghost use Rattle.kernel.specs.Work.{everyTurn};
-ghost use Rattle.kernel.specs.Calls.{tick, trigger};
+ghost use Rattle.kernel.specs.Calls.{tick, trigger, enable};
 ghost use Rattle.kernel.specs.Step.{finish, orRefuse};
 ghost use Rattle.survey.specs.Looks.{putIf, waitsOk};
-ghost use Rattle.engine.specs.Inner.{marksOf};
+ghost use Rattle.serving.specs.Ends.{marksOf};
 ghost use Rattle.layout.specs.declared.Mark.{Mark};
 ghost use Rattle.layout.specs.declared.Call.{Call};
-use crate::asking::done;
-use crate::asking::only_granted;
 use crate::declarations::answered;
-use crate::serving::Marks;
-use crate::serving::finished;
 use calendar::Duration;
 use calendar::Instant;
 use calendar::LAST_INSTANT;
 use kernel::Kernel;
 use kernel::Running;
 use kernel::Stepped;
+use serving::ends::Marks;
+use serving::ends::done;
+use serving::ends::finished;
+use serving::ends::only_granted;
 use survey::sets::put_if;
 use task::Turn;
 
@@ -130,4 +130,15 @@ pub(crate) fn triggered(k: Kernel, i: u8) -> Stepped
         return finished(w.kernel, m);
     }
     done(k)
+}
+
+// ENABLE and DISABLE.
+pub(crate) fn enabled_as(k: Kernel, i: usize, b: bool) -> Stepped
+    requires { ⌜ waitsOk k ≡ true ⌝ }
+    requires { ⌜ i < k .counts .interrupts ⌝ }
+    ensures { λ s. ⌜ s ≡ finish k (enable k i b) ⌝ }
+{
+    let mut next = k;
+    next.enabled[i] = b;
+    done(next)
 }

@@ -1,20 +1,28 @@
-// Refusals 2 to 7: what the call, the counts and the first accepted call decide.
+// Refusals 2 to 7: what the call, the counts and the first accepted call decide. 8 to 15: what the state decides.
 // `&` and `|` join tests that are all safe to make.
 ghost use mathlib.Core.Path.{_≡_};
 ghost use Prim.Native.Nat.{_≤_};
 ghost use Rattle.calendar.specs.Limits.{day};
-ghost use Rattle.record.specs.Refusals.{mostNumbers, shape};
+ghost use Rattle.record.specs.Refusals.{mostNumbers, shape, unless};
 ghost use Rattle.record.specs.Reading.{callWith};
+ghost use Rattle.kernel.specs.Running.{someone};
 ghost use Rattle.kernel.specs.Refusals.{declares, declaredIn, roomFor, formalRefusal, listDeclared};
+ghost use Rattle.engine.specs.Changes.{InOrder, refusalBy};
 ghost use Rattle.engine.specs.Inner.{startDeclared};
+use calendar::Instant;
+use calendar::LAST_INSTANT;
 use kernel::Counts;
+use kernel::Running;
 use layout::Head;
 use layout::Mark;
 use layout::Numbers;
+use lock::Locks;
 use lock::Wait;
 use record::times::times_of;
+use serving::ends::is_someone;
 use survey::check::are_below;
 use survey::check::count_of;
+use task::Task;
 
 pub(crate) fn is_declaration(mark: Mark) -> bool
     ensures { λ r. ⌜ r ≡ declares mark ⌝ }
@@ -94,4 +102,53 @@ pub(crate) fn formal_refusal(n: Counts, begun: bool, shaped: u8, h: Head, list: 
         return 7;
     }
     0
+}
+
+// A refusal unless a test holds, else what the next tests give.
+fn unless(ok: bool, number: u8, rest: u8) -> u8
+    ensures { λ n. ⌜ n ≡ unless ok number rest ⌝ }
+{
+    if ok { rest } else { number }
+}
+
+// The first of refusals 8 to 15, or 0, with the runner, the task that the call is about, the locks and the instant.
+pub(crate) fn state_refusal(
+    h: Head,
+    list: Numbers,
+    r: Running,
+    t: Task,
+    locks: Locks,
+    now: Instant,
+) -> u8
+    requires { ⌜ InOrder (callWith h list) ⌝ }
+    ensures { λ n. ⌜ n ≡ refusalBy (h .mark) (callWith h list) r t locks now ⌝ }
+{
+    let mark = h.mark;
+    let hold = t.hold;
+    let n = h.len as usize;
+    let runs = is_someone(r);
+    match mark {
+        Mark::AC => unless(!((h.kind == 0) & t.alive), 9, 0),
+        Mark::TE => unless(t.alive, 10, 0),
+        Mark::SU => unless(t.alive, 10, unless(!hold.is_suspended(), 11, 0)),
+        Mark::CO => unless(t.alive, 10, unless(!hold.is_unheld(), 12, 0)),
+        Mark::EN | Mark::RE | Mark::RQ | Mark::TR | Mark::RS | Mark::ET => unless(runs, 8, 0),
+        Mark::RL => unless(
+            runs,
+            8,
+            unless(locks.is_returnable(Wait::Request, n, list), 13, 0),
+        ),
+        Mark::FR => unless(
+            runs,
+            8,
+            unless(locks.is_returnable(Wait::Reserve, n, list), 14, 0),
+        ),
+        Mark::LV => unless(
+            runs,
+            8,
+            unless(locks.is_returnable(Wait::Enter, n, list), 14, 0),
+        ),
+        Mark::TI => unless(now.0 < LAST_INSTANT, 15, 0),
+        _ => 0,
+    }
 }

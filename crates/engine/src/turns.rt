@@ -1,31 +1,14 @@
-// Calls that give one task its turn.
+// What ACTIVATE does to its task.
 ghost use mathlib.Core.Path.{_≡_};
-ghost use mathlib.Core.Bool.{true};
-ghost use Prim.Native.Nat.{_≤_, _<_};
+ghost use Prim.Native.Nat.{_≤_};
 ghost use Rattle.calendar.specs.Limits.{day, lastInstant};
-ghost use Rattle.record.specs.Reading.{callWith};
-ghost use Rattle.layout.specs.declared.Mark.{Mark};
-ghost use mathlib.Core.List.{[]};
-ghost use Rattle.kernel.specs.Test.{waitOk, valid};
-ghost use Rattle.kernel.specs.Running.{runner};
-ghost use Rattle.survey.specs.Looks.{waitsOk};
-ghost use Rattle.engine.specs.Inner.{accordingly};
-ghost use Rattle.kernel.specs.Work.{oneTurn};
 ghost use Rattle.kernel.specs.Calls.{startOf, endOf, armed, scheduleOf, activateTurn};
-ghost use Rattle.kernel.specs.Step.{finish};
-use crate::declarations::answered;
-use crate::serving::Marks;
-use crate::serving::finished;
 use calendar::Duration;
 use calendar::End;
 use calendar::Instant;
 use calendar::Moment;
 use calendar::Start;
-use kernel::Kernel;
-use kernel::Running;
-use kernel::Stepped;
 use layout::Head;
-use survey::sets::only_task;
 use task::Alarm;
 use task::Plan;
 use task::Schedule;
@@ -91,7 +74,7 @@ fn schedule_of(clock: u32, n: Instant, h: Head, p: u8) -> Schedule
 }
 
 // ACTIVATE: kind 0 is due for the task; another kind replaces its schedule.
-fn activate(t: Task, clock: u32, n: Instant, h: Head) -> Turn
+pub(crate) fn activate(t: Task, clock: u32, n: Instant, h: Head) -> Turn
     requires { ⌜ n .0 ≤ lastInstant ⌝ }
     ensures { λ r. ⌜ r ≡ activateTurn day clock n h t ⌝ }
 {
@@ -101,140 +84,4 @@ fn activate(t: Task, clock: u32, n: Instant, h: Head) -> Turn
     }
     let s = schedule_of(clock, n, h, p);
     t.plan(s, n)
-}
-
-// Task i has its turn, and the call ends.
-pub(crate) fn turn(k: Kernel, i: usize, u: Turn) -> Stepped
-    requires { ⌜ waitsOk k ≡ true ⌝ }
-    requires { ⌜ i < k .counts .tasks ⌝ }
-    requires { ⌜ waitOk (k .counts) (u .task) ≡ true ⌝ }
-    ensures { λ r. ⌜ r ≡ finish k (oneTurn k i u) ⌝ }
-{
-    let t = u.task;
-    let mut next = k;
-    next.tasks[i] = t;
-    finished(
-        next,
-        Marks {
-            due: only_task(i, u.due),
-            started: only_task(i, u.started),
-            ended: only_task(i, u.ended),
-            lost: only_task(i, u.lost),
-            granted: 0,
-        },
-    )
-}
-
-pub(crate) fn activated(k: Kernel, h: Head, r: Running) -> Stepped
-    requires { ⌜ h .mark ≡ Mark.AC ⌝ }
-    requires { ⌜ valid day k ≡ true ⌝ }
-    requires { ⌜ r ≡ runner k ⌝ }
-    requires { ⌜ h .number < k .counts .tasks ⌝ }
-    ensures { λ s. ⌜ s ≡ accordingly day k (callWith h []) ⌝ }
-{
-    let i = h.number as usize;
-    let t = k.tasks[i];
-    if h.kind == 0 {
-        if t.alive {
-            return answered(k, 9, r);
-        }
-    }
-    let now = k.now;
-    let u = activate(t, k.clock, now, h);
-    turn(k, i, u)
-}
-
-pub(crate) fn terminated(k: Kernel, h: Head, r: Running) -> Stepped
-    requires { ⌜ h .mark ≡ Mark.TE ⌝ }
-    requires { ⌜ valid day k ≡ true ⌝ }
-    requires { ⌜ r ≡ runner k ⌝ }
-    requires { ⌜ h .number < k .counts .tasks ⌝ }
-    ensures { λ s. ⌜ s ≡ accordingly day k (callWith h []) ⌝ }
-{
-    let i = h.number as usize;
-    let t = k.tasks[i];
-    if !t.alive {
-        return answered(k, 10, r);
-    }
-    turn(k, i, t.end())
-}
-
-pub(crate) fn suspended(k: Kernel, h: Head, r: Running) -> Stepped
-    requires { ⌜ h .mark ≡ Mark.SU ⌝ }
-    requires { ⌜ valid day k ≡ true ⌝ }
-    requires { ⌜ r ≡ runner k ⌝ }
-    requires { ⌜ h .number < k .counts .tasks ⌝ }
-    ensures { λ s. ⌜ s ≡ accordingly day k (callWith h []) ⌝ }
-{
-    let i = h.number as usize;
-    let t = k.tasks[i];
-    let hold = t.hold;
-    if !t.alive {
-        return answered(k, 10, r);
-    }
-    if hold.is_suspended() {
-        return answered(k, 11, r);
-    }
-    turn(k, i, t.suspend())
-}
-
-pub(crate) fn prevented(k: Kernel, h: Head, r: Running) -> Stepped
-    requires { ⌜ h .mark ≡ Mark.PR ⌝ }
-    requires { ⌜ valid day k ≡ true ⌝ }
-    requires { ⌜ r ≡ runner k ⌝ }
-    requires { ⌜ h .number < k .counts .tasks ⌝ }
-    ensures { λ s. ⌜ s ≡ accordingly day k (callWith h []) ⌝ }
-{
-    let i = h.number as usize;
-    let t = k.tasks[i];
-    turn(k, i, t.prevent())
-}
-
-pub(crate) fn continued(k: Kernel, h: Head, r: Running) -> Stepped
-    requires { ⌜ h .mark ≡ Mark.CO ⌝ }
-    requires { ⌜ valid day k ≡ true ⌝ }
-    requires { ⌜ r ≡ runner k ⌝ }
-    requires { ⌜ h .number < k .counts .tasks ⌝ }
-    ensures { λ s. ⌜ s ≡ accordingly day k (callWith h []) ⌝ }
-{
-    let i = h.number as usize;
-    let t = k.tasks[i];
-    let hold = t.hold;
-    if !t.alive {
-        return answered(k, 10, r);
-    }
-    if hold.is_unheld() {
-        return answered(k, 12, r);
-    }
-    turn(k, i, t.go_on(h.priority))
-}
-
-pub(crate) fn ended(k: Kernel, h: Head, r: Running) -> Stepped
-    requires { ⌜ h .mark ≡ Mark.EN ⌝ }
-    requires { ⌜ valid day k ≡ true ⌝ }
-    requires { ⌜ r ≡ runner k ⌝ }
-    ensures { λ s. ⌜ s ≡ accordingly day k (callWith h []) ⌝ }
-{
-    let Running::Runs(i) = r else {
-        return answered(k, 8, r);
-    };
-    let at = i as usize;
-    let t = k.tasks[at];
-    turn(k, at, t.end())
-}
-
-pub(crate) fn resumed(k: Kernel, h: Head, r: Running) -> Stepped
-    requires { ⌜ h .mark ≡ Mark.RE ⌝ }
-    requires { ⌜ valid day k ≡ true ⌝ }
-    requires { ⌜ r ≡ runner k ⌝ }
-    ensures { λ s. ⌜ s ≡ accordingly day k (callWith h []) ⌝ }
-{
-    let Running::Runs(i) = r else {
-        return answered(k, 8, r);
-    };
-    let at = i as usize;
-    let t = k.tasks[at];
-    let now = k.now;
-    let n = now.plus(Duration(h.first));
-    turn(k, at, t.delay(n))
 }

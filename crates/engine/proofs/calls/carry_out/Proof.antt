@@ -1,522 +1,225 @@
--- Arm by arm, by what the call has passed.
+-- Declarations apart; what the state refuses; then the four marks that aren't about one task, and the others.
 use borrow.Author.Needs.{needs}
-use mathlib.Core.Path.{refl, sym, ap, _∙_}
-use mathlib.Core.List.{[]}
-use native.Mathlib.Omega.{arith}
 use borrow.Author.Tests.{ltb-true}
+use mathlib.Core.Path.{_≡_, refl, sym, _∙_}
+use mathlib.Core.Bool.{true, false}
+use Prim.Native.Nat.{_<_}
+use native.Mathlib.Omega.{arith}
+use lib.ListN.{take}
 use Rattle.calendar.specs.Limits.{day}
+use Rattle.layout.specs.Marks.{marks}
 use Rattle.record.specs.Reading.{callWith}
-use Rattle.kernel.specs.Calls.{addSemaphore}
-use Rattle.kernel.specs.Refusals.{declaredIn, stateRefusalOf}
+use Rattle.kernel.specs.Refusals.{declares, declaredIn, stateRefusalOf}
+use Rattle.kernel.specs.State.{mostTasks}
 use Rattle.kernel.specs.Step.{carryOut}
-use Rattle.kernel.proofs.Passed.{room-task, room-semaphore, room-bolt, room-interrupt}
-use Rattle.engine.proofs.AskLaws.{waits-ok}
-use Rattle.engine.proofs.CallLaws.{as-mark, as-declared, known, room, list-some, list-one, preset-same, start-known}
+use Rattle.engine.proofs.TurnCases.{sound}
+use Rattle.engine.proofs.MarkLaws.{alike}
+use Rattle.engine.proofs.CallLaws.{as-mark, known}
+use Rattle.engine.proofs.ChangeLaws.{ofOne, in-order, place-fits, refused-by, change-waits, change-done}
 use Rattle.engine.proofs.calls.carry_out.Statement.{statement}
 use Rattle.engine.proofs.calls.carry_out.Tie as tie
 
-cast-i : tie.Need-cast-i
-cast-i c = search needs
-
-enum-told : tie.Need-enum-told
-enum-told c = search needs
-
-add-task-requires : tie.Need-add-task-requires
-add-task-requires c κs =
+-- Where the call's place is known,
+placed : (c : tie.After-place-of) → c .place-of .result < mostTasks
+placed c =
     let s = c .before .before .before in
     let a = s .args in
-    room-task (a .k .counts) (room day (a .k) (a .h) (a .list) (s .pre .1 .1) (c .enum-told .given .1))
+    place-fits day (a .t1) (a .h) (a .list) (s .pre .0) (s .pre .1 .1) (s .pre .1 .0) (c .place-of .ensures)
+
+-- and where the state refuses nothing.
+abbrev at : tie.Else2 → tie.After-place-of
+at c = c .before .before .before .before .before
+
+abbrev start : tie.Else2 → tie.Start
+start c = at c .before .before .before
+
+call : (c : tie.Else2) → declares (start c .args .h .mark) ≡ false
+call c = sym (at c .before .before .is-declaration .ensures) ∙ at c .before .if1 .left
+
+-- The mark is none of the four.
+one : (c : tie.At-match-keys5) → ofOne (start (c .before) .args .h .mark) ≡ true
+one c = sym (alike ofOne (start (c .before) .args .h .mark) (take 19 marks) refl (c .match .keys5))
+
+is-declaration-requires : tie.Need-is-declaration-requires
+is-declaration-requires c κs = search needs
+
+declared-requires : tie.Need-declared-requires
+declared-requires c κs =
+    let s = c .before .before in
+    (sym (c .before .is-declaration .ensures) ∙ c .if1 .taken, (s .pre .1 .0, (s .args .list, s .pre .1 .1)))
+
+returns : tie.Need-returns
+returns c = c .declared .ensures (c .before .before .before .args .list)
+
+place-of-requires : tie.Need-place-of-requires
+place-of-requires c κs = search needs
+
+mul-t : tie.Need-mul-t
+mul-t c = omega (arith, placed c)
+
+element-copy-out-t : tie.Need-element-copy-out-t
+element-copy-out-t c = placed c
+
+state-refusal-requires : tie.Need-state-refusal-requires
+state-refusal-requires c κs =
+    let s = c .before .before .before .before .before .before in
+    let a = s .args in
+    in-order day (a .t1) (a .h) (a .list) (s .pre .0) (s .pre .1 .1) (a .h .mark) refl
 
 answered-requires : tie.Need-answered-requires
 answered-requires c κs = search needs
 
-enum-told-2 : tie.Need-enum-told-2
-enum-told-2 c = search needs
-
-cast-add-semaphore : tie.Need-cast-add-semaphore
-cast-add-semaphore c = search needs
-
-add-semaphore-requires : tie.Need-add-semaphore-requires
-add-semaphore-requires c κs =
-    let s = c .before .before .before .before in
+returns-2 : tie.Need-returns-2
+returns-2 c =
+    let n = c .before .before in
+    let i = n .before .before .before .before in
+    let s = i .before .before .before in
     let a = s .args in
-    room-semaphore (a .k .counts) (room day (a .k) (a .h) (a .list) (s .pre .1 .1) (c .before .enum-told2 .given .1))
+    c .answered .ensures
+    ∙ refused-by day (a .t1) (a .h) (a .list) (s .pre .0) (s .pre .1 .1) (s .pre .1 .0) (i .place-of .ensures) (n .state-refusal .ensures)
+    (c .before .if2 .taken)
 
-answered-requires-2 : tie.Need-answered-requires-2
-answered-requires-2 c κs = search needs
-
-enum-told-3 : tie.Need-enum-told-3
-enum-told-3 c = search needs
-
-add-bolt-requires : tie.Need-add-bolt-requires
-add-bolt-requires c κs =
-    let s = c .before .before .before in
-    let a = s .args in
-    room-bolt (a .k .counts) (room day (a .k) (a .h) (a .list) (s .pre .1 .1) (c .enum-told3 .given .1))
-
-answered-requires-3 : tie.Need-answered-requires-3
-answered-requires-3 c κs = search needs
-
-enum-told-4 : tie.Need-enum-told-4
-enum-told-4 c = search needs
-
-add-interrupt-requires : tie.Need-add-interrupt-requires
-add-interrupt-requires c κs =
-    let s = c .before .before .before in
-    let a = s .args in
-    room-interrupt (a .k .counts) (room day (a .k) (a .h) (a .list) (s .pre .1 .1) (c .enum-told4 .given .1))
-
-answered-requires-4 : tie.Need-answered-requires-4
-answered-requires-4 c κs = search needs
-
-enum-told-5 : tie.Need-enum-told-5
-enum-told-5 c = search needs
-
-set-clock-requires : tie.Need-set-clock-requires
-set-clock-requires c κs = search needs
-
-answered-requires-5 : tie.Need-answered-requires-5
-answered-requires-5 c κs = search needs
-
-enum-told-6 : tie.Need-enum-told-6
-enum-told-6 c = search needs
-
-activated-requires : tie.Need-activated-requires
-activated-requires c κs =
-    let s = c .before .before .before in
-    let a = s .args in
-    let e = c .enum-told6 .given .1 in
-    (e, (s .pre .0, (s .pre .1 .0, start-known day (a .k) (a .h) (a .list) (s .pre .1 .1) e)))
-
-enum-told-7 : tie.Need-enum-told-7
-enum-told-7 c = search needs
-
-terminated-requires : tie.Need-terminated-requires
-unfolding declaredIn
-terminated-requires c κs =
-    let s = c .before .before .before in
-    let a = s .args in
-    let e = c .enum-told7 .given .1 in
-    (e, (s .pre .0, (s .pre .1 .0, ltb-true _ _ (known day (a .k) (a .h) (a .list) (s .pre .1 .1) e))))
-
-enum-told-8 : tie.Need-enum-told-8
-enum-told-8 c = search needs
-
-suspended-requires : tie.Need-suspended-requires
-unfolding declaredIn
-suspended-requires c κs =
-    let s = c .before .before .before in
-    let a = s .args in
-    let e = c .enum-told8 .given .1 in
-    (e, (s .pre .0, (s .pre .1 .0, ltb-true _ _ (known day (a .k) (a .h) (a .list) (s .pre .1 .1) e))))
-
-enum-told-9 : tie.Need-enum-told-9
-enum-told-9 c = search needs
-
-prevented-requires : tie.Need-prevented-requires
-unfolding declaredIn
-prevented-requires c κs =
-    let s = c .before .before .before in
-    let a = s .args in
-    let e = c .enum-told9 .given .1 in
-    (e, (s .pre .0, (s .pre .1 .0, ltb-true _ _ (known day (a .k) (a .h) (a .list) (s .pre .1 .1) e))))
-
-enum-told-10 : tie.Need-enum-told-10
-enum-told-10 c = search needs
-
-continued-requires : tie.Need-continued-requires
-unfolding declaredIn
-continued-requires c κs =
-    let s = c .before .before .before in
-    let a = s .args in
-    let e = c .enum-told10 .given .1 in
-    (e, (s .pre .0, (s .pre .1 .0, ltb-true _ _ (known day (a .k) (a .h) (a .list) (s .pre .1 .1) e))))
-
-enum-told-11 : tie.Need-enum-told-11
-enum-told-11 c = search needs
-
-ended-requires : tie.Need-ended-requires
-ended-requires c κs = search needs
-
-enum-told-12 : tie.Need-enum-told-12
-enum-told-12 c = search needs
-
-resumed-requires : tie.Need-resumed-requires
-resumed-requires c κs = search needs
-
-enum-told-13 : tie.Need-enum-told-13
-enum-told-13 c = search needs
-
-asked-requires : tie.Need-asked-requires
-unfolding declaredIn
-asked-requires c κs =
-    let s = c .before .before .before in
-    let a = s .args in
-    let e = c .enum-told13 .given .1 in
-    let g = list-some day (a .k) (a .h) (a .list) (s .pre .1 .1) e refl in
-    (s .pre .0, (s .pre .1 .0, (g .0, (g .1 .0, (g .1 .1, known day (a .k) (a .h) (a .list) (s .pre .1 .1) e)))))
-
-enum-told-14 : tie.Need-enum-told-14
-enum-told-14 c = search needs
-
-given-requires : tie.Need-given-requires
-unfolding declaredIn
-given-requires c κs =
-    let s = c .before .before .before in
-    let a = s .args in
-    let e = c .enum-told14 .given .1 in
-    let g = list-some day (a .k) (a .h) (a .list) (s .pre .1 .1) e refl in
-    (s .pre .0, (s .pre .1 .0, (omega arith, (g .1 .0, (g .1 .1, known day (a .k) (a .h) (a .list) (s .pre .1 .1) e)))))
-
-enum-told-15 : tie.Need-enum-told-15
-enum-told-15 c = search needs
-
-asked-requires-2 : tie.Need-asked-requires-2
-unfolding declaredIn
-asked-requires-2 c κs =
-    let s = c .before .before .before in
-    let a = s .args in
-    let e = c .enum-told15 .given .1 in
-    let g = list-one day (a .k) (a .h) (a .list) (s .pre .1 .1) e refl in
-    (s .pre .0, (s .pre .1 .0, (g .0, (g .1 .0, (g .1 .1, known day (a .k) (a .h) (a .list) (s .pre .1 .1) e)))))
-
-enum-told-16 : tie.Need-enum-told-16
-enum-told-16 c = search needs
-
-asked-requires-3 : tie.Need-asked-requires-3
-unfolding declaredIn
-asked-requires-3 c κs =
-    let s = c .before .before .before in
-    let a = s .args in
-    let e = c .enum-told16 .given .1 in
-    let g = list-some day (a .k) (a .h) (a .list) (s .pre .1 .1) e refl in
-    (s .pre .0, (s .pre .1 .0, (g .0, (g .1 .0, (g .1 .1, known day (a .k) (a .h) (a .list) (s .pre .1 .1) e)))))
-
-enum-told-17 : tie.Need-enum-told-17
-enum-told-17 c = search needs
-
-given-requires-2 : tie.Need-given-requires-2
-unfolding declaredIn
-given-requires-2 c κs =
-    let s = c .before .before .before in
-    let a = s .args in
-    let e = c .enum-told17 .given .1 in
-    let g = list-some day (a .k) (a .h) (a .list) (s .pre .1 .1) e refl in
-    (s .pre .0, (s .pre .1 .0, (omega arith, (g .1 .0, (g .1 .1, known day (a .k) (a .h) (a .list) (s .pre .1 .1) e)))))
-
-enum-told-18 : tie.Need-enum-told-18
-enum-told-18 c = search needs
-
-asked-requires-4 : tie.Need-asked-requires-4
-unfolding declaredIn
-asked-requires-4 c κs =
-    let s = c .before .before .before in
-    let a = s .args in
-    let e = c .enum-told18 .given .1 in
-    let g = list-some day (a .k) (a .h) (a .list) (s .pre .1 .1) e refl in
-    (s .pre .0, (s .pre .1 .0, (g .0, (g .1 .0, (g .1 .1, known day (a .k) (a .h) (a .list) (s .pre .1 .1) e)))))
-
-enum-told-19 : tie.Need-enum-told-19
-enum-told-19 c = search needs
-
-given-requires-3 : tie.Need-given-requires-3
-unfolding declaredIn
-given-requires-3 c κs =
-    let s = c .before .before .before in
-    let a = s .args in
-    let e = c .enum-told19 .given .1 in
-    let g = list-some day (a .k) (a .h) (a .list) (s .pre .1 .1) e refl in
-    (s .pre .0, (s .pre .1 .0, (omega arith, (g .1 .0, (g .1 .1, known day (a .k) (a .h) (a .list) (s .pre .1 .1) e)))))
-
-enum-told-20 : tie.Need-enum-told-20
-enum-told-20 c = search needs
+enum-told : tie.Need-enum-told
+enum-told c = search needs
 
 triggered-requires : tie.Need-triggered-requires
 unfolding declaredIn
 triggered-requires c κs =
-    let s = c .before .before .before in
+    let s = start (c .before .before) in
     let a = s .args in
-    (s .pre .0, ltb-true _ _ (known day (a .k) (a .h) (a .list) (s .pre .1 .1) (c .enum-told20 .given .1)))
+    (s .pre .0, ltb-true _ _ (known day (a .t1) (a .h) (a .list) (s .pre .1 .1) (c .enum-told .given .1)))
 
-enum-told-21 : tie.Need-enum-told-21
-enum-told-21 c = search needs
+enum-told-2 : tie.Need-enum-told-2
+enum-told-2 c = search needs
+
+cast-enabled-as : tie.Need-cast-enabled-as
+cast-enabled-as c = search needs
 
 enabled-as-requires : tie.Need-enabled-as-requires
 unfolding declaredIn
 enabled-as-requires c κs =
-    let s = c .before .before .before in
+    let s = start (c .before .before .before) in
     let a = s .args in
-    (waits-ok day (a .k) (s .pre .0), ltb-true _ _ (known day (a .k) (a .h) (a .list) (s .pre .1 .1) (c .enum-told21 .given .1)))
+    (sound day (a .t1) (s .pre .0) .waits, ltb-true _ _ (known day (a .t1) (a .h) (a .list) (s .pre .1 .1) (c .before .enum-told2 .given .1)))
 
-enum-told-22 : tie.Need-enum-told-22
-enum-told-22 c = search needs
+enum-told-3 : tie.Need-enum-told-3
+enum-told-3 c = search needs
+
+cast-enabled-as-2 : tie.Need-cast-enabled-as-2
+cast-enabled-as-2 c = search needs
 
 enabled-as-requires-2 : tie.Need-enabled-as-requires-2
 unfolding declaredIn
 enabled-as-requires-2 c κs =
-    let s = c .before .before .before in
+    let s = start (c .before .before .before) in
     let a = s .args in
-    (waits-ok day (a .k) (s .pre .0), ltb-true _ _ (known day (a .k) (a .h) (a .list) (s .pre .1 .1) (c .enum-told22 .given .1)))
+    (sound day (a .t1) (s .pre .0) .waits, ltb-true _ _ (known day (a .t1) (a .h) (a .list) (s .pre .1 .1) (c .before .enum-told3 .given .1)))
 
-enum-told-23 : tie.Need-enum-told-23
-enum-told-23 c = search needs
+enum-told-4 : tie.Need-enum-told-4
+enum-told-4 c = search needs
 
 ticked-requires : tie.Need-ticked-requires
 ticked-requires c κs = search needs
 
-returns : tie.Need-returns
-unfolding stateRefusalOf carryOut
-returns c =
-    let s = c .before .before .before .before .before in
-    let a = s .args in
-    let o = c .before .before .enum-told .given .1 in
-    c .answered .ensures ∙ as-declared day (a .k) (a .h) (a .list) o (s .pre .1 .0) (c .before .add-task .ensures) refl
+change-of-requires : tie.Need-change-of-requires
+change-of-requires c κs =
+    let s = start (c .before) in
+    let a = s .args in (
+      sound day (a .t1) (s .pre .0) .now,
+      (
+        in-order day (a .t1) (a .h) (a .list) (s .pre .0) (s .pre .1 .1) (a .h .mark) refl,
+        (a .r, sym (c .before .before .state-refusal .ensures) ∙ c .before .if2 .left),
+      ),
+    )
 
-returns-2 : tie.Need-returns-2
-unfolding stateRefusalOf carryOut
-returns-2 c =
-    let s = c .before .before .before .before .before .before in
+mul-task : tie.Need-mul-task
+mul-task c = omega (arith, placed (at (c .before .before .before .before)))
+
+element-set-from-task : tie.Need-element-set-from-task
+element-set-from-task c = placed (at (c .before .before .before .before))
+
+marks-of-requires : tie.Need-marks-of-requires
+marks-of-requires c κs = placed (at (c .before .before .before .before))
+
+finished-requires : tie.Need-finished-requires
+finished-requires c κs =
+    let x = c .before .before .before in
+    let y = x .before in
+    let p = y .before in
+    let s = start p in
     let a = s .args in
-    let o = c .before .before .before .enum-told2 .given .1 in
-    c .answered2 .ensures
-    ∙ as-declared day (a .k) (a .h) (a .list) o (s .pre .1 .0)
-    (c .before .add-semaphore .ensures ∙ ap (λ v. addSemaphore v (a .k)) (preset-same day (a .k) (a .h) (a .list) (s .pre .1 .1) o))
-    refl
+    change-waits day (a .t1) (a .h) (a .list) (s .pre .0) (s .pre .1 .1) (s .pre .1 .0) (at p .place-of .ensures) (p .before .state-refusal .ensures)
+    (p .if2 .left) (call p) (one y) (x .change-of .ensures)
 
 returns-3 : tie.Need-returns-3
 unfolding stateRefusalOf carryOut
 returns-3 c =
-    let s = c .before .before .before .before .before in
+    let s = start (c .before .before .before) in
     let a = s .args in
-    let o = c .before .before .enum-told3 .given .1 in
-    c .answered3 .ensures ∙ as-declared day (a .k) (a .h) (a .list) o (s .pre .1 .0) (c .before .add-bolt .ensures) refl
+    c .triggered .ensures ∙ as-mark day (a .t1) (a .h) (a .list) (c .before .enum-told .given .1)
 
 returns-4 : tie.Need-returns-4
 unfolding stateRefusalOf carryOut
 returns-4 c =
-    let s = c .before .before .before .before .before in
+    let s = start (c .before .before .before .before) in
     let a = s .args in
-    let o = c .before .before .enum-told4 .given .1 in
-    c .answered4 .ensures ∙ as-declared day (a .k) (a .h) (a .list) o (s .pre .1 .0) (c .before .add-interrupt .ensures) refl
+    c .enabled-as .ensures ∙ as-mark day (a .t1) (a .h) (a .list) (c .before .before .enum-told2 .given .1)
 
 returns-5 : tie.Need-returns-5
 unfolding stateRefusalOf carryOut
 returns-5 c =
-    let s = c .before .before .before .before .before in
+    let s = start (c .before .before .before .before) in
     let a = s .args in
-    let o = c .before .before .enum-told5 .given .1 in
-    c .answered5 .ensures ∙ as-declared day (a .k) (a .h) (a .list) o (s .pre .1 .0) (c .before .set-clock .ensures) refl
+    c .enabled-as2 .ensures ∙ as-mark day (a .t1) (a .h) (a .list) (c .before .before .enum-told3 .given .1)
 
 returns-6 : tie.Need-returns-6
-unfolding stateRefusalOf carryOut
+unfolding carryOut
 returns-6 c =
-    let s = c .before .before .before .before in
+    let s = start (c .before .before .before) in
     let a = s .args in
-    let o = c .before .enum-told6 .given .1 in
-    c .activated .ensures ∙ sym (as-mark day (a .k) (a .h) [] o) ∙ as-mark day (a .k) (a .h) (a .list) o
+    c .ticked .ensures (callWith (a .h) (a .list)) ∙ as-mark day (a .t1) (a .h) (a .list) (c .before .enum-told4 .given .1)
 
 returns-7 : tie.Need-returns-7
-unfolding stateRefusalOf carryOut
 returns-7 c =
-    let s = c .before .before .before .before in
+    let x = c .before .before .before .before in
+    let y = x .before in
+    let p = y .before in
+    let s = start p in
     let a = s .args in
-    let o = c .before .enum-told7 .given .1 in
-    c .terminated .ensures ∙ sym (as-mark day (a .k) (a .h) [] o) ∙ as-mark day (a .k) (a .h) (a .list) o
-
-returns-8 : tie.Need-returns-8
-unfolding stateRefusalOf carryOut
-returns-8 c =
-    let s = c .before .before .before .before in
-    let a = s .args in
-    let o = c .before .enum-told8 .given .1 in
-    c .suspended .ensures ∙ sym (as-mark day (a .k) (a .h) [] o) ∙ as-mark day (a .k) (a .h) (a .list) o
-
-returns-9 : tie.Need-returns-9
-unfolding stateRefusalOf carryOut
-returns-9 c =
-    let s = c .before .before .before .before in
-    let a = s .args in
-    let o = c .before .enum-told9 .given .1 in
-    c .prevented .ensures ∙ sym (as-mark day (a .k) (a .h) [] o) ∙ as-mark day (a .k) (a .h) (a .list) o
-
-returns-10 : tie.Need-returns-10
-unfolding stateRefusalOf carryOut
-returns-10 c =
-    let s = c .before .before .before .before in
-    let a = s .args in
-    let o = c .before .enum-told10 .given .1 in
-    c .continued .ensures ∙ sym (as-mark day (a .k) (a .h) [] o) ∙ as-mark day (a .k) (a .h) (a .list) o
-
-returns-11 : tie.Need-returns-11
-unfolding stateRefusalOf carryOut
-returns-11 c =
-    let s = c .before .before .before .before in
-    let a = s .args in
-    let o = c .before .enum-told11 .given .1 in
-    c .ended .ensures ∙ sym (as-mark day (a .k) (a .h) [] o) ∙ as-mark day (a .k) (a .h) (a .list) o
-
-returns-12 : tie.Need-returns-12
-unfolding stateRefusalOf carryOut
-returns-12 c =
-    let s = c .before .before .before .before in
-    let a = s .args in
-    let o = c .before .enum-told12 .given .1 in
-    c .resumed .ensures ∙ sym (as-mark day (a .k) (a .h) [] o) ∙ as-mark day (a .k) (a .h) (a .list) o
-
-returns-13 : tie.Need-returns-13
-unfolding stateRefusalOf carryOut
-returns-13 c =
-    let s = c .before .before .before .before in
-    let a = s .args in
-    c .asked .ensures ∙ as-mark day (a .k) (a .h) (a .list) (c .before .enum-told13 .given .1)
-
-returns-14 : tie.Need-returns-14
-unfolding stateRefusalOf carryOut
-returns-14 c =
-    let s = c .before .before .before .before in
-    let a = s .args in
-    c .given .ensures ∙ as-mark day (a .k) (a .h) (a .list) (c .before .enum-told14 .given .1)
-
-returns-15 : tie.Need-returns-15
-unfolding stateRefusalOf carryOut
-returns-15 c =
-    let s = c .before .before .before .before in
-    let a = s .args in
-    c .asked2 .ensures ∙ as-mark day (a .k) (a .h) (a .list) (c .before .enum-told15 .given .1)
-
-returns-16 : tie.Need-returns-16
-unfolding stateRefusalOf carryOut
-returns-16 c =
-    let s = c .before .before .before .before in
-    let a = s .args in
-    c .asked3 .ensures ∙ as-mark day (a .k) (a .h) (a .list) (c .before .enum-told16 .given .1)
-
-returns-17 : tie.Need-returns-17
-unfolding stateRefusalOf carryOut
-returns-17 c =
-    let s = c .before .before .before .before in
-    let a = s .args in
-    c .given2 .ensures ∙ as-mark day (a .k) (a .h) (a .list) (c .before .enum-told17 .given .1)
-
-returns-18 : tie.Need-returns-18
-unfolding stateRefusalOf carryOut
-returns-18 c =
-    let s = c .before .before .before .before in
-    let a = s .args in
-    c .asked4 .ensures ∙ as-mark day (a .k) (a .h) (a .list) (c .before .enum-told18 .given .1)
-
-returns-19 : tie.Need-returns-19
-unfolding stateRefusalOf carryOut
-returns-19 c =
-    let s = c .before .before .before .before in
-    let a = s .args in
-    c .given3 .ensures ∙ as-mark day (a .k) (a .h) (a .list) (c .before .enum-told19 .given .1)
-
-returns-20 : tie.Need-returns-20
-unfolding stateRefusalOf carryOut
-returns-20 c =
-    let s = c .before .before .before .before in
-    let a = s .args in
-    c .triggered .ensures ∙ as-mark day (a .k) (a .h) (a .list) (c .before .enum-told20 .given .1)
-
-returns-21 : tie.Need-returns-21
-unfolding stateRefusalOf carryOut
-returns-21 c =
-    let s = c .before .before .before .before in
-    let a = s .args in
-    c .enabled-as .ensures ∙ as-mark day (a .k) (a .h) (a .list) (c .before .enum-told21 .given .1)
-
-returns-22 : tie.Need-returns-22
-unfolding stateRefusalOf carryOut
-returns-22 c =
-    let s = c .before .before .before .before in
-    let a = s .args in
-    c .enabled-as2 .ensures ∙ as-mark day (a .k) (a .h) (a .list) (c .before .enum-told22 .given .1)
-
-returns-23 : tie.Need-returns-23
-unfolding carryOut
-returns-23 c =
-    let s = c .before .before .before .before in
-    let a = s .args in
-    c .ticked .ensures (callWith (a .h) (a .list)) ∙ as-mark day (a .k) (a .h) (a .list) (c .before .enum-told23 .given .1)
+    c .finished .ensures
+    ∙ change-done day (a .t1) (a .h) (a .list) (s .pre .0) (s .pre .1 .1) (s .pre .1 .0) (at p .place-of .ensures) (p .before .state-refusal .ensures)
+    (p .if2 .left) (call p) (one y) (x .change-of .ensures) (c .before .marks-of .ensures)
 
 pub carry-out-spec : {M : Type 1} → statement M
 carry-out-spec =
     tie.close
     (tie.spec
-    cast-i
-    enum-told
-    add-task-requires
-    answered-requires
-    enum-told-2
-    cast-add-semaphore
-    add-semaphore-requires
-    answered-requires-2
-    enum-told-3
-    add-bolt-requires
-    answered-requires-3
-    enum-told-4
-    add-interrupt-requires
-    answered-requires-4
-    enum-told-5
-    set-clock-requires
-    answered-requires-5
-    enum-told-6
-    activated-requires
-    enum-told-7
-    terminated-requires
-    enum-told-8
-    suspended-requires
-    enum-told-9
-    prevented-requires
-    enum-told-10
-    continued-requires
-    enum-told-11
-    ended-requires
-    enum-told-12
-    resumed-requires
-    enum-told-13
-    asked-requires
-    enum-told-14
-    given-requires
-    enum-told-15
-    asked-requires-2
-    enum-told-16
-    asked-requires-3
-    enum-told-17
-    given-requires-2
-    enum-told-18
-    asked-requires-4
-    enum-told-19
-    given-requires-3
-    enum-told-20
-    triggered-requires
-    enum-told-21
-    enabled-as-requires
-    enum-told-22
-    enabled-as-requires-2
-    enum-told-23
-    ticked-requires
+    is-declaration-requires
+    declared-requires
     returns
+    place-of-requires
+    mul-t
+    element-copy-out-t
+    state-refusal-requires
+    answered-requires
     returns-2
+    enum-told
+    triggered-requires
+    enum-told-2
+    cast-enabled-as
+    enabled-as-requires
+    enum-told-3
+    cast-enabled-as-2
+    enabled-as-requires-2
+    enum-told-4
+    ticked-requires
+    change-of-requires
+    mul-task
+    element-set-from-task
+    marks-of-requires
+    finished-requires
     returns-3
     returns-4
     returns-5
     returns-6
-    returns-7
-    returns-8
-    returns-9
-    returns-10
-    returns-11
-    returns-12
-    returns-13
-    returns-14
-    returns-15
-    returns-16
-    returns-17
-    returns-18
-    returns-19
-    returns-20
-    returns-21
-    returns-22
-    returns-23)
+    returns-7)

@@ -8,7 +8,8 @@ use Rattle.kernel.specs.Step.{finish}
 use Rattle.kernel.proofs.Passed.{tested}
 use Rattle.kernel.proofs.Turns.{good-trigger}
 use Rattle.survey.proofs.KernelFacts.{tasks-long}
-use Rattle.engine.proofs.EveryTask.{every-finish, every-waits, now-in, waits-in, trigger-on, trigger-off}
+use Rattle.engine.proofs.TurnCases.{sound}
+use Rattle.engine.proofs.EveryTask.{every-finish, every-waits, trigger-on, trigger-off}
 use Rattle.engine.proofs.clock.triggered.Statement.{statement}
 use Rattle.engine.proofs.clock.triggered.Tie as tie
 
@@ -21,14 +22,14 @@ element-copy-out-if1 c = omega (arith, c .pre .1, tested day (c .args .t1) (c .p
 trigger-all-requires : tie.Need-trigger-all-requires
 trigger-all-requires c κs =
     let s = c .before .before in
-    (tested day (s .args .t1) (s .pre .0) .fits .tasks, now-in day (s .args .t1) (s .pre .0))
+    (tested day (s .args .t1) (s .pre .0) .fits .tasks, sound day (s .args .t1) (s .pre .0) .now)
 
 finished-requires : tie.Need-finished-requires
 finished-requires c κs =
     let s = c .before .before .before .before in
     let k = s .args .t1 in
     every-waits day k (s .pre .0) (tasks-long k (s .good .0 .0, s .good .0 .1 .1)) (k .now) (triggerTurn day (k .clock) (k .now) (s .args .i))
-    (λ t h. good-trigger day (k .counts) isDay (k .clock) (k .now) (now-in day k (s .pre .0)) (s .args .i) t h .ok)
+    (λ t h. good-trigger day (k .counts) isDay (k .clock) (k .now) (sound day k (s .pre .0) .now) (s .args .i) t h .ok)
     (c .before .trigger-all .ensures .0)
 
 returns : tie.Need-returns
@@ -41,7 +42,7 @@ returns c =
     ∙ ap (finish k) (sym (trigger-on day k (s .args .i) (c .before .before .before .if1 .taken)))
 
 done-requires : tie.Need-done-requires
-done-requires c κs = waits-in day (c .before .before .args .t1) (c .before .before .pre .0)
+done-requires c κs = sound day (c .before .before .args .t1) (c .before .before .pre .0) .waits
 
 returns-2 : tie.Need-returns-2
 returns-2 c =

@@ -1,0 +1,22 @@
+-- What is enabled doesn't matter to the waits, nor to what ends a call but as its work.
+use borrow.Author.Needs.{needs}
+use Rattle.kernel.specs.Work.{onlyLocks}
+use Rattle.kernel.specs.Step.{finish}
+use Rattle.survey.specs.Looks.{waitsOk}
+use Rattle.engine.proofs.AskLaws.{interrupt-fits}
+use Rattle.engine.proofs.clock.enabled_as.Statement.{statement}
+use Rattle.engine.proofs.clock.enabled_as.Tie as tie
+
+element-write-next : tie.Need-element-write-next
+element-write-next c = interrupt-fits (c .args .k) (c .pre .0) (c .args .i) (c .pre .1)
+
+done-requires : tie.Need-done-requires
+unfolding waitsOk
+done-requires c κs = search needs
+
+returns : tie.Need-returns
+unfolding finish onlyLocks
+returns c = c .done .ensures
+
+pub enabled-as-spec : {M : Type 1} → statement M
+enabled-as-spec = tie.close (tie.spec element-write-next done-requires returns)

@@ -1,0 +1,3 @@
+-- Laws of the program's two loops.
+pub mod FrontLaws
+pub mod TurnLaws

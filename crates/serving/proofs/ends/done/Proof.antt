@@ -1,0 +1,23 @@
+-- Nothing was done and nobody is marked.
+use borrow.Author.Needs.{needs}
+use mathlib.Core.Path.{ap, _∙_}
+use Rattle.kernel.specs.Work.{onlyLocks}
+use Rattle.kernel.specs.Step.{finish}
+use Rattle.serving.specs.Ends.{workHere}
+use Rattle.serving.proofs.ends.done.Statement.{statement}
+use Rattle.serving.proofs.ends.done.Tie as tie
+
+only-granted-requires : tie.Need-only-granted-requires
+only-granted-requires c κs = search needs
+
+finished-requires : tie.Need-finished-requires
+finished-requires c κs = search needs
+
+returns : tie.Need-returns
+unfolding onlyLocks
+returns c =
+    let k = c .before .before .args .k in
+    c .finished .ensures ∙ ap (λ m. finish k (workHere k m)) (c .before .only-granted .ensures)
+
+pub done-spec : {M : Type 1} → statement M
+done-spec = tie.close (tie.spec only-granted-requires finished-requires returns)

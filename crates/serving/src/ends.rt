@@ -1,0 +1,208 @@
+// Serving, and what ends every accepted call.
+ghost use mathlib.Core.Path.{_≡_};
+ghost use mathlib.Core.Bool.{true};
+ghost use Prim.Native.Nat.{_<_};
+ghost use Rattle.kernel.specs.Granting.{servable};
+ghost use Rattle.kernel.specs.Serving.{nextServed, grantTo};
+ghost use Rattle.kernel.specs.Running.{someone};
+ghost use Rattle.kernel.specs.Step.{finish};
+ghost use Rattle.kernel.specs.Work.{noWork};
+ghost use Rattle.survey.specs.Looks.{waitsOk};
+ghost use Rattle.serving.specs.Ends.{served, withServed, servedOf, workHere};
+use kernel::Answer;
+use kernel::Kernel;
+use kernel::Running;
+use kernel::Stepped;
+use lock::is_waiting;
+use survey::scan::NOBODY;
+use survey::scan::can_run;
+use survey::scan::nearest;
+use survey::scan::places;
+use survey::scan::running;
+use survey::scan::task_of;
+use survey::scan::urgency_of;
+use survey::sets::put_task;
+
+// The five sets of an answer.
+pub struct Marks {
+    pub due: u32,
+    pub started: u32,
+    pub ended: u32,
+    pub lost: u32,
+    pub granted: u32,
+}
+
+// A kernel whose waiting tasks have been served, and who was granted.
+pub struct Serviced {
+    pub kernel: Kernel,
+    pub granted: u32,
+}
+
+// Whether a task runs.
+pub fn is_someone(r: Running) -> bool
+    ensures { λ s. ⌜ s ≡ someone r ⌝ }
+{
+    match r {
+        Running::Idle => false,
+        Running::Runs(_) => true,
+    }
+}
+
+// The most urgent task that waits on a list that could be granted, held or not. A task is given up at the first
+// number of its list that isn't free.
+fn next_served(k: Kernel) -> Running
+    requires { ⌜ waitsOk k ≡ true ⌝ }
+    ensures { λ r. ⌜ r ≡ nextServed (k .counts .tasks) (served k 0) ⌝ }
+{
+    let counts = k.counts;
+    let n = counts.tasks as usize;
+    let locks = k.locks;
+    let mut least = NOBODY;
+    'tasks: for i in 0..n {
+        let t = k.tasks[i];
+        let wait = t.wait;
+        if !is_waiting(wait) {
+            continue 'tasks;
+        }
+        let u = urgency_of(k.tasks[i].current, i);
+        if least <= u {
+            continue 'tasks;
+        }
+        let m = k.tasks[i].len as usize;
+        let t = k.tasks[i];
+        let list = t.list;
+        for j in 0..m {
+            let x = list[j] as usize;
+            if !locks.is_free(wait, x) {
+                continue 'tasks;
+            }
+        }
+        least = u;
+    }
+    task_of(least)
+}
+
+// Task i is granted the whole list that it waits on.
+fn grant_to(k: Kernel, i: usize) -> Kernel
+    requires { ⌜ waitsOk k ≡ true ⌝ }
+    requires { ⌜ i < k .counts .tasks ⌝ }
+    requires { ⌜ servable (k .counts .tasks) (k .tasks) (k .locks) i ≡ true ⌝ }
+    ensures { λ r. ⌜ r ≡ withServed (grantTo i (served k 0)) k ⌝ }
+{
+    let t = k.tasks[i];
+    let wait = t.wait;
+    let list = t.list;
+    let m = t.len as usize;
+    let locks = k.locks;
+    let left = locks.take_all(wait, m, list);
+    let over = t.awake();
+    let mut next = k;
+    next.locks = left;
+    next.tasks[i] = over;
+    next
+}
+
+// While there is one to be served, the next is granted.
+fn serve(k: Kernel, granted: u32) -> Serviced
+    requires { ⌜ waitsOk k ≡ true ⌝ }
+    ensures { λ r. ⌜ (r .kernel ≡ withServed (servedOf k granted) k) × (r .granted ≡ servedOf k granted .granted) ⌝ }
+{
+    let mut now = k;
+    let mut g = granted;
+    loop {
+        let next = next_served(now);
+        let Running::Runs(i) = next else {
+            return Serviced {
+                kernel: now,
+                granted: g,
+            };
+        };
+        let at = i as usize;
+        now = grant_to(now, at);
+        g = put_task(at, g);
+    }
+}
+
+// The end of a call after which some task waits: it may have to be served.
+fn finished_serving(k: Kernel, m: Marks) -> Stepped
+    requires { ⌜ waitsOk k ≡ true ⌝ }
+    ensures { λ r. ⌜ r ≡ finish k (workHere k m) ⌝ }
+{
+    let s = serve(k, m.granted);
+    let granted = s.granted;
+    let mut next = s.kernel;
+    next.begun = true;
+    let runner = running(next);
+    Stepped {
+        kernel: next,
+        answer: Answer {
+            number: 0,
+            running: runner,
+            due: m.due,
+            started: m.started,
+            ended: m.ended,
+            lost: m.lost,
+            granted,
+        },
+    }
+}
+
+// Every accepted call ends so. The kernel has had its work done, and the marks say what was done. Where nobody waits
+// or none that waits could be granted, there is nobody to serve.
+pub fn finished(k: Kernel, m: Marks) -> Stepped
+    requires { ⌜ waitsOk k ≡ true ⌝ }
+    ensures { λ r. ⌜ r ≡ finish k (workHere k m) ⌝ }
+{
+    let counts = k.counts;
+    let n = places(counts.tasks);
+    let mut least = NOBODY;
+    let mut waits = false;
+    for i in 0..n {
+        let t = k.tasks[i];
+        let wait = t.wait;
+        let hold = t.hold;
+        let runs = can_run(k.tasks[i].alive, wait, hold);
+        waits = waits | is_waiting(wait);
+        least = nearest(least, runs, k.tasks[i].current, i);
+    }
+    if waits {
+        if is_someone(next_served(k)) {
+            return finished_serving(k, m);
+        }
+    }
+    let mut next = k;
+    next.begun = true;
+    Stepped {
+        kernel: next,
+        answer: Answer {
+            number: 0,
+            running: task_of(least),
+            due: m.due,
+            started: m.started,
+            ended: m.ended,
+            lost: m.lost,
+            granted: m.granted,
+        },
+    }
+}
+
+// Empty sets, but for those that are granted.
+pub fn only_granted(granted: u32) -> Marks
+    ensures { λ r. ⌜ r ≡ record { due = 0; started = 0; ended = 0; lost = 0; granted = granted } ⌝ }
+{
+    Marks {
+        due: 0,
+        started: 0,
+        ended: 0,
+        lost: 0,
+        granted,
+    }
+}
+
+// A call without effect ends.
+pub fn done(k: Kernel) -> Stepped
+    requires { ⌜ waitsOk k ≡ true ⌝ }
+    ensures { λ s. ⌜ s ≡ finish k (noWork k) ⌝ }
+{
+    finished(k, only_granted(0))
+}

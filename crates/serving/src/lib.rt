@@ -1,0 +1,2 @@
+// Serving, and what ends every accepted call.
+pub mod ends;
