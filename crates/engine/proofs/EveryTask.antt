@@ -1,6 +1,6 @@
 -- The turns of all tasks, one after the other: what the tables and the sets are with the first i turns made.
 use mathlib.Core.Path.{_≡_, refl, sym, _∙_, ap}
-use mathlib.Core.Bool.{Bool, true, false}
+use mathlib.Core.Bool.{Bool, true, false, cond, _&&_, _||_}
 use mathlib.Core.List.{List, [], _∷_, _++_, map}
 use Prim.Native.Nat.{ℕ, zero, suc, _+_, _*_, _^_, _≤_, _<_}
 use native.Mathlib.Nat.{not-suc-le-zero, pow-suc, one-mul}
@@ -9,22 +9,22 @@ use native.Mathlib.Omega.{arith}
 use lib.Bits.{bitOr, or-shifted-r}
 use lib.ListN.{length, take, drop, set, length-map}
 use lib.Seq.{length-take-le, set-getD}
-use borrow.Author.Tests.{lt-ltb, le-ltb}
-use Rattle.calendar.specs.Limits.{lastInstant}
+use borrow.Author.Tests.{lt-ltb, le-ltb, leb-true, ltb-true, ltb-false}
+use Rattle.calendar.specs.Limits.{lastInstant, isTimeOfDay}
 use Rattle.calendar.specs.declared.Instant.{Instant}
 use Rattle.layout.specs.declared.Mark.the-variants.{TI}
 use Rattle.layout.specs.declared.Call.{Call}
-use Rattle.lock.specs.Locks.{bit}
-use Rattle.lock.proofs.Bools.{and-both}
-use Rattle.task.specs.State.{noTask}
+use Rattle.lock.specs.Locks.{bit, waiting, valueAt, boltAt}
+use Rattle.lock.proofs.Bools.{and-both, byBool, both, neither}
+use Rattle.task.specs.State.{noTask, runnable}
 use Rattle.task.specs.Turns.{unmarked, triggerTurn}
 use Rattle.task.specs.declared.Task.{Task}
 use Rattle.task.specs.declared.Turn.{Turn}
 use Rattle.kernel.specs.Sets.{setOf}
-use Rattle.kernel.specs.State.{mostTasks, taskAt, enabledAt, withState}
+use Rattle.kernel.specs.State.{mostTasks, taskAt, enabledAt, withState, begunAt}
 use Rattle.kernel.specs.Work.{noWork, turns, everyTurn}
-use Rattle.kernel.specs.Running.{runner}
-use Rattle.kernel.specs.Test.{valid}
+use Rattle.kernel.specs.Running.{runner, runningOf}
+use Rattle.kernel.specs.Test.{valid, isPriority, keptOk, holdOk, restOk, waitOk, scheduleOk, taskOk, allBelow, countsOk, nobodyServable}
 use Rattle.kernel.specs.Refusals.{stateRefusalOf}
 use Rattle.kernel.specs.Calls.{trigger}
 use Rattle.kernel.specs.Step.{refuse, finish, orRefuse}
@@ -33,13 +33,20 @@ use Rattle.kernel.specs.declared.Stepped.{Stepped}
 use Rattle.kernel.proofs.Below.{all-at, all-from}
 use Rattle.kernel.proofs.Facts.{TaskOk, task-test, task-untest}
 use Rattle.kernel.proofs.Passed.{tested}
-use Rattle.kernel.proofs.Works.{turn-at}
+use Rattle.kernel.proofs.Works.{turn-at, every-length}
 use Rattle.kernel.proofs.Sets.{setOf-lt}
 use Rattle.survey.proofs.TestLaws.{wait-of}
-use Rattle.survey.specs.Looks.{putIf, waitsOk}
-use Rattle.serving.specs.Ends.{marksOf, workHere}
+use Rattle.survey.specs.Looks.{putIf, waitsOk, nobody, taskOf}
+use Rattle.serving.specs.Ends.{marksOf, workHere, servedOf}
 use Rattle.serving.specs.declared.ends.Marks.{Marks}
 use Rattle.engine.proofs.TurnCases.{sound}
+use lib.Dec.{leb, ltb}
+use Rattle.record.specs.Refusals.{mostValue}
+use Rattle.kernel.specs.declared.Counts.{Counts}
+use Rattle.kernel.specs.declared.Running.{Running}
+use Rattle.survey.proofs.KernelFacts.{Good, tasks-long, current-fits}
+use Rattle.survey.proofs.LeastLaws.{Bounded, leastOf, canRun, least-none, least-found, runs-next}
+use Rattle.serving.proofs.ServeLaws.{NoneWaits, none-more, next-none, served-idle}
 
 -- ---- a set with one more place
 
@@ -65,11 +72,13 @@ module _ (f : Task → Turn) where
   unfoldable pub setAfter : (Turn → Bool) → ℕ → List Task → ℕ
   setAfter g i ts = setOf (map g (turns i f ts))
 
-  after-at : (i : ℕ) (ts : List Task) → i < length ts → taskAt (tasksAfter i ts) i ≡ taskAt ts i
+  -- The tasks whose turns are to come.
+  after-later : (i j : ℕ) (ts : List Task) → i ≤ j → taskAt (tasksAfter i ts) j ≡ taskAt ts j
   unfolding tasksAfter
-  after-at i [] h = absurd (not-suc-le-zero h)
-  after-at zero (t ∷ ts) h = refl
-  after-at (suc i) (t ∷ ts) h = after-at i ts (omega arith)
+  after-later zero j ts h = refl
+  after-later (suc i) j [] h = refl
+  after-later (suc i) zero (t ∷ ts) h = absurd (not-suc-le-zero h)
+  after-later (suc i) (suc j) (t ∷ ts) h = after-later i j ts (omega arith)
 
   after-more : (i : ℕ) (ts : List Task) → i < length ts → set (tasksAfter i ts) i (f (taskAt ts i) .task) ≡ tasksAfter (suc i) ts
   unfolding tasksAfter
@@ -129,9 +138,18 @@ module _ (f : Task → Turn) (k : Kernel) where
   made-all n e h =
       (h .kernel ∙ ap (λ (x : ℕ). withState (tasksAfter f x (k .tasks)) (k .locks) (k .enabled) k) e, h .marks ∙ ap (λ (x : ℕ). marksAfter f x (k .tasks)) e)
 
+  -- The task whose turn was made last is as it is once all are made.
+  pub made-at : (n : Instant) (i : ℕ) {next : Kernel} {m : Marks} → k .counts .tasks ≤ length (k .tasks) → i < k .counts .tasks
+      → Made f k (i + 1) next m → taskAt (next .tasks) i ≡ taskAt (everyTurn k n f .tasks) i
+  unfolding tasksAfter everyTurn
+  made-at n i room l h =
+      ap (λ (q : Kernel). taskAt (q .tasks) i) (h .kernel)
+      ∙ turn-at (i + 1) f (k .tasks) (omega arith) i (omega arith)
+      ∙ sym (turn-at (k .counts .tasks) f (k .tasks) room i l)
+
   module _ (i : ℕ) (l : i < length (k .tasks)) {next : Kernel} {m : Marks} (h : Made f k i next m) where
     task-now : taskAt (next .tasks) i ≡ taskAt (k .tasks) i
-    task-now = ap (λ (q : Kernel). taskAt (q .tasks) i) (h .kernel) ∙ after-at f i (k .tasks) l
+    task-now = ap (λ (q : Kernel). taskAt (q .tasks) i) (h .kernel) ∙ after-later f i i (k .tasks) (omega arith)
 
     made-turn : (u : Turn) → u ≡ f (taskAt (next .tasks) i)
         → Made f k (i + 1) (withState (set (next .tasks) i (u .task)) (next .locks) (next .enabled) next) (withTurn i u m)
@@ -195,6 +213,70 @@ module _ (day : ℕ) (k : Kernel) (v : valid day k ≡ true) where
       (all-from (k .counts .tasks) _
       (λ i l. rw (turn-at (k .counts .tasks) f (k .tasks) room i l)
       (wait-of day (k .counts) _ (task-test day (k .counts) _ (keeps (taskAt (k .tasks) i) (task-untest day (k .counts) (taskAt (k .tasks) i) (all-at (k .counts .tasks) _ (sound day k v .tasks) i l))))))))
+
+  -- They keep what bounds the urgencies, too.
+  pub every-bounded : Good k → (n : Instant) (f : Task → Turn)
+      → ((t : Task) → TaskOk day (k .counts) t → TaskOk day (k .counts) (f t .task)) → Bounded (everyTurn k n f .tasks)
+  unfolding everyTurn tasksAfter
+  every-bounded g n f keeps =
+      let c = k .counts .tasks in
+      let long = tasks-long k g in
+      let room : c ≤ length (k .tasks) = omega (arith, long, tested day k v .fits .tasks) in
+      record {
+        long = every-length k n f room ∙ long;
+        range = λ i. byBool (ltb i c)
+            (λ e. let l = ltb-true i c e in
+            let t = taskAt (k .tasks) i in
+            let p = f t .task .current in
+            let q = keeps t (task-untest day (k .counts) t (all-at c _ (sound day k v .tasks) i l)) .current-ok in
+            rw (turn-at c f (k .tasks) room i l) (omega (arith, leb-true p 255 (both (leb 1 p) (leb p 255) q .1))))
+            (λ e. rw (after-later f c i (k .tasks) (ltb-false i c e)) (current-fits k g i));
+      }
+
+-- ---- a scan on the way, of the tasks as they are once all turns are made
+
+-- A scan has seen the first i tasks: the least urgency of those that can run, and whether one waits.
+pub record Seen (ts : List Task) (i least : ℕ) (waits : Bool) : Type 0 where
+  pub runs : least ≡ leastOf i (canRun ts) ts
+  pub none : waits ≡ false → NoneWaits i ts
+
+pub seen-none : (ts : List Task) → Seen ts 0 nobody false
+seen-none ts = record { runs = sym (least-none _ _); none = λ e j l. absurd (not-suc-le-zero l) }
+
+pub seen-more : (ts : List Task) → Bounded ts → (i : ℕ) → i < mostTasks → (t : Task) → t ≡ taskAt ts i → {least r : ℕ} {waits runs w : Bool}
+    → Seen ts i least waits → runs ≡ runnable t → w ≡ waiting (t .wait)
+    → r ≡ cond (runs && ltb (mostTasks * t .current + i) least) (mostTasks * t .current + i) least
+    → Seen ts (i + 1) r (waits || w)
+seen-more ts f i l t e {waits = waits} {w = w} h a b q =
+    record {
+      runs = runs-next ts f i l (a ∙ ap runnable e) (h .runs) (rw e at q);
+      none = λ z. let y = neither waits w z in none-more i ts (h .none (y .0)) (ap (λ (t : Task). waiting (t .wait)) (sym e) ∙ sym b ∙ y .1);
+    }
+
+-- A scan that has seen them all has found who runs.
+pub seen-all : (ts : List Task) → Bounded ts → (n : ℕ) → n ≤ mostTasks → {i least : ℕ} {waits : Bool} → i ≡ n → Seen ts i least waits
+    → (taskOf least ≡ runningOf n ts) × (waits ≡ false → NoneWaits n ts)
+unfolding runningOf
+seen-all ts f n l e h = (rw (h .runs, e) (least-found (canRun ts) ts f n l), rw e at (h .none))
+
+-- The end of a call after which the task r runs, with nobody served.
+abbrev pub unserved : Kernel → Marks → Running → Stepped
+unserved k m r =
+    record {
+      kernel = begunAt (k .now) k;
+      answer = record { number = 0; running = r; due = m .due; started = m .started; ended = m .ended; lost = m .lost; granted = m .granted };
+    }
+
+unserved-finish : (k : Kernel) (m : Marks) {r : Running} → NoneWaits (k .counts .tasks) (k .tasks) → r ≡ runner k → unserved k m r ≡ finish k (workHere k m)
+unfolding finish servedOf
+unserved-finish k m h e = rw (e, served-idle k (m .granted) (next-none k h))
+
+-- So it ends where nobody waits once every task has had its turn.
+pub every-unserved : (k : Kernel) (n : Instant) (f : Task → Turn) {next : Kernel} {m : Marks} {r : Running}
+    → next ≡ everyDone k n f → m ≡ marksOf (everyTurn k n f)
+    → NoneWaits (k .counts .tasks) (everyTurn k n f .tasks) → r ≡ runningOf (k .counts .tasks) (everyTurn k n f .tasks)
+    → unserved next m r ≡ finish k (everyTurn k n f)
+every-unserved k n f a b h e = rw (a, b) (unserved-finish (everyDone k n f) (marksOf (everyTurn k n f)) h e) ∙ every-finish k n f refl refl
 
 -- ---- a tick at the last instant is refused
 

@@ -76,6 +76,9 @@ pub fn step_on(k: Kernel, s: &[u8], r: Running) -> Stepped
     requires { ⌜ r ≡ runner k ⌝ }
     ensures { λ z. ⌜ z ≡ step day k (now (s .entry)) ⌝ }
 {
+    if is_tick(s) {
+        return ticked(k, r);
+    }
     let reading = open(s);
     let answer = reading.answer;
     let list = reading.list;

@@ -2,8 +2,8 @@
 ghost use mathlib.Core.Path.{_≡_};
 ghost use mathlib.Core.Bool.{true};
 ghost use Prim.Native.Nat.{_≤_, _<_};
-ghost use Rattle.calendar.specs.Limits.{day, lastInstant, mostInstant};
-ghost use Rattle.task.specs.Turns.{tickTurn, triggerTurn};
+ghost use Rattle.calendar.specs.Limits.{day, lastInstant};
+ghost use Rattle.task.specs.Turns.{triggerTurn};
 ghost use Rattle.kernel.specs.State.{mostTasks, withState};
 ghost use Rattle.kernel.specs.Running.{runner};
 ghost use Rattle.kernel.specs.Test.{valid};
@@ -17,15 +17,20 @@ ghost use Rattle.layout.specs.declared.Mark.{Mark};
 ghost use Rattle.layout.specs.declared.Call.{Call};
 use crate::declarations::answered;
 use calendar::Duration;
-use calendar::Instant;
 use calendar::LAST_INSTANT;
+use kernel::Answer;
 use kernel::Kernel;
 use kernel::Running;
 use kernel::Stepped;
+use lock::is_waiting;
 use serving::ends::Marks;
 use serving::ends::done;
 use serving::ends::finished;
 use serving::ends::only_granted;
+use survey::scan::NOBODY;
+use survey::scan::can_run;
+use survey::scan::nearest;
+use survey::scan::task_of;
 use survey::sets::put_if;
 use task::Turn;
 
@@ -49,28 +54,18 @@ fn marked(m: Marks, i: usize, u: Turn) -> Marks
     }
 }
 
-// Each declared task's turn at a tick to n.
-pub(crate) fn tick_all(k: Kernel, n: Instant) -> Working
-    requires { ⌜ k .counts .tasks ≤ mostTasks ⌝ }
-    requires { ⌜ n .0 ≤ mostInstant ⌝ }
-    ensures { λ r. ⌜ (r .kernel ≡ withState (everyTurn k n (tickTurn n) .tasks) (k .locks) (k .enabled) k) × (r .marks ≡ marksOf (everyTurn k n (tickTurn n))) ⌝ }
+// The answer to an accepted call after which the task r runs.
+fn answer_of(m: Marks, r: Running) -> Answer
+    ensures { λ a. ⌜ a ≡ record { number = 0; running = r; due = m .due; started = m .started; ended = m .ended; lost = m .lost; granted = m .granted } ⌝ }
 {
-    let counts = k.counts;
-    let most = counts.tasks as usize;
-    let mut next = k;
-    let mut m = only_granted(0);
-    for i in 0..most {
-        let t = next.tasks[i];
-        if t.stirs_at(n) {
-            let u = t.tick(n);
-            let after = u.task;
-            next.tasks[i] = after;
-            m = marked(m, i, u);
-        }
-    }
-    Working {
-        kernel: next,
-        marks: m,
+    Answer {
+        number: 0,
+        running: r,
+        due: m.due,
+        started: m.started,
+        ended: m.ended,
+        lost: m.lost,
+        granted: m.granted,
     }
 }
 
@@ -101,6 +96,8 @@ pub(crate) fn trigger_all(k: Kernel, interrupt: u8) -> Working
     }
 }
 
+// Each declared task's turn at a tick, and on the way a look at who runs after it and whether one waits.
+// A task is read whole only where it stirs.
 pub(crate) fn ticked(k: Kernel, r: Running) -> Stepped
     requires { ⌜ valid day k ≡ true ⌝ }
     requires { ⌜ r ≡ runner k ⌝ }
@@ -111,11 +108,37 @@ pub(crate) fn ticked(k: Kernel, r: Running) -> Stepped
         return answered(k, 15, r);
     }
     let n = now.plus(Duration(1));
-    let w = tick_all(k, n);
-    let m = w.marks;
-    let mut next = w.kernel;
+    let counts = k.counts;
+    let most = counts.tasks as usize;
+    let mut next = k;
+    let mut m = only_granted(0);
+    let mut least = NOBODY;
+    let mut waits = false;
+    for i in 0..most {
+        let t = next.tasks[i];
+        if t.stirs_at(n) {
+            let whole = next.tasks[i];
+            let u = whole.tick(n);
+            let after = u.task;
+            next.tasks[i] = after;
+            m = marked(m, i, u);
+        }
+        let z = next.tasks[i];
+        let wait = z.wait;
+        let hold = z.hold;
+        let runs = can_run(next.tasks[i].alive, wait, hold);
+        waits = waits | is_waiting(wait);
+        least = nearest(least, runs, next.tasks[i].current, i);
+    }
     next.now = n;
-    finished(next, m)
+    if waits {
+        return finished(next, m);
+    }
+    next.begun = true;
+    Stepped {
+        kernel: next,
+        answer: answer_of(m, task_of(least)),
+    }
 }
 
 pub(crate) fn triggered(k: Kernel, i: u8) -> Stepped

@@ -16,6 +16,7 @@ use Rattle.layout.specs.Fields.{callOf, headOf, listOf, bytesOf}
 use Rattle.record.specs.Lists.{allZero}
 use Rattle.record.specs.Refusals.{mostValue, uses, cleanNames, cleanStart, ranged, formed, listed, timed, shape, times}
 use Rattle.record.specs.Reading.{opened}
+use Rattle.layout.specs.declared.Call.{Call}
 use Rattle.layout.specs.declared.Mark.the-variants.{TI}
 use Rattle.lock.specs.Locks.{valueAt, boltAt}
 use Rattle.task.specs.Schedules.{falls}
@@ -34,7 +35,7 @@ use Rattle.kernel.specs.Serving.{serve}
 use Rattle.kernel.specs.Test.{taskOk, allBelow, countsOk, nobodyServable, valid}
 use Rattle.kernel.specs.Refusals.{declares, declaredIn, roomFor, formalRefusal, stateRefusalOf, refusalOf}
 use Rattle.kernel.specs.Calls.{tick}
-use Rattle.kernel.specs.Step.{plainAnswer, finish, carryOut, carryOn, step}
+use Rattle.kernel.specs.Step.{plainAnswer, finish, orRefuse, carryOut, carryOn, step}
 use Rattle.kernel.specs.Log.{final, log}
 use Rattle.kernel.specs.Scripts.{row, oneTick}
 use Rattle.kernel.specs.Quiet.{comes, Quiet, later, TicksAreQuiet}
@@ -137,6 +138,11 @@ module _ (day : ℕ) (k : Kernel) (room : length (k .tasks) ≡ mostTasks) (v : 
         no-marks f (λ u. u .lost) (λ t. refl) n (k .tasks) r e,
         nobody-served 0 n,
       )
+
+  -- A tick, quiet or not.
+  pub tick-step : (c : Call) → step day k oneTick ≡ orRefuse k (stateRefusalOf TI k c) (finish k (tick k))
+  unfolding step carryOn carryOut refusalOf stateRefusalOf opened among headOf bytesOf
+  tick-step c = rw (v, tick-formed day (k .counts) (k .begun))
 
   pub quiet-step : Quiet 1 k → k .now .0 < lastInstant
       → step day k oneTick
