@@ -13,7 +13,7 @@ use task::Kept;
 use task::Schedule;
 use task::Task;
 
-// A declared task: terminated, its current priority the declared one, with no schedule.
+// A task just declared: not alive, at its own priority, without a schedule.
 pub(crate) fn fresh_task(p: u8) -> Task
     ensures { λ r. ⌜ r ≡ freshTask p ⌝ }
 {

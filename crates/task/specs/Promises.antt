@@ -32,7 +32,7 @@ pub record Fair (p : Bool) (t : Task) (u : Turn) : Type 0 where
   pub waits : waiting (u .task .wait) ≡ (waiting (t .wait) && not (u .ended))
   pub wants : waiting (u .task .wait) ≡ true → (u .task .wait ≡ t .wait) × (wanted (u .task) ≡ wanted t)
 
--- Every turn is fair.
+-- Every turn is fair; a trigger's and an activation's are a due's, a schedule's, or none of their own.
 pub record TurnsAreFair : Type 0 where
   pub due : (p : ℕ) (t : Task) → Rests t → Fair false t (dueTurn p t)
   pub end : (t : Task) → t .alive ≡ true → Fair false t (endTurn t)
