@@ -35,9 +35,11 @@ module _ (a : Rack) (u : Use) (p : Promised a u) where
   replied = p .learnt ∙ ap (λ (r : List ℕ). reply (step day (a .kernel) r)) (p .refers)
 
   next-kernel : u .reply .rack .kernel ≡ step day (a .kernel) (u .bytes) .kernel
+  unfolding reply
   next-kernel = ap (λ (r : Reply). r .rack .kernel) replied
 
   answered : u .reply .answer ≡ step day (a .kernel) (u .bytes) .answer
+  unfolding reply
   answered = ap (λ (r : Reply). r .answer) replied
 
 -- ---- any records

@@ -13,14 +13,10 @@ use Rattle.rack.specs.Reply.{reply}
 use Rattle.rack.specs.declared.Reply.{Reply}
 
 -- A step, handed on.
-pub step-replies : (s t : Stepped) (r : Reply) → t ≡ s → r ≡ reply t → r ≡ reply s
-step-replies s t r e f = f ∙ ap reply e
+pub step-replies : (s t : Stepped) → t ≡ s → reply t ≡ reply s
+step-replies s t e = ap reply e
 
 -- A call, by its record.
 pub record-replies :
     (k : Kernel) (c : Call) (s : List ℕ) (r : Reply) → FourPlaces c → s ≡ bytesOf c → r ≡ reply (step day k s) → r ≡ reply (carry day k c)
 record-replies k c s r four e f = f ∙ ap (λ b. reply (step day k b)) e ∙ ap reply (step-is-carry day k c four)
-
--- A call, made of its fields.
-pub call-replies : (k : Kernel) (c d : Call) (r : Reply) → d ≡ c → r ≡ reply (carry day k d) → r ≡ reply (carry day k c)
-call-replies k c d r e f = f ∙ ap (λ x. reply (carry day k x)) e

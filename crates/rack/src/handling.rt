@@ -3,7 +3,6 @@ ghost use mathlib.Core.Path.{_≡_};
 ghost use Rattle.calendar.specs.Limits.{day};
 ghost use Rattle.kernel.specs.State.{nothing};
 ghost use Rattle.kernel.specs.Running.{runner};
-ghost use Rattle.kernel.specs.Test.{valid};
 ghost use Rattle.kernel.specs.Step.{step, carry};
 ghost use Rattle.rack.specs.Reply.{reply};
 use crate::Rack;
@@ -11,21 +10,9 @@ use crate::Reply;
 use engine::calls::step;
 use engine::fresh::fresh;
 use kernel::Running;
-use kernel::Stepped;
 use layout::Call;
 use layout::fields::bytes_of;
-use survey::look::is_valid;
 use survey::scan::running;
-
-// What a step hands back, for the next method.
-fn replied(s: Stepped) -> Reply
-    ensures { λ r. ⌜ r ≡ reply s ⌝ }
-{
-    let kernel = s.kernel;
-    let answer = s.answer;
-    let rack = Rack { kernel };
-    Reply { rack, answer }
-}
 
 impl Rack {
     // Nothing is declared.
@@ -42,22 +29,19 @@ impl Rack {
         running(self.kernel)
     }
 
-    // The kernel test: what passes it isn't refused with 1.
-    pub fn is_valid(self) -> bool
-        ensures { λ r. ⌜ r ≡ valid day (self .kernel) ⌝ }
-    {
-        is_valid(self.kernel)
-    }
-
     // The machine's step over bytes of any length.
     pub fn step(self, s: &[u8]) -> Reply
         ensures { λ r. ⌜ r ≡ reply (step day (self .kernel) (now (s .entry))) ⌝ }
     {
-        replied(step(self.kernel, s))
+        let stepped = step(self.kernel, s);
+        let kernel = stepped.kernel;
+        let answer = stepped.answer;
+        let rack = Rack { kernel };
+        Reply { rack, answer }
     }
 
     // A call or declaration, by its record.
-    pub fn carry(self, c: Call) -> Reply
+    pub(crate) fn carry(self, c: Call) -> Reply
         ensures { λ r. ⌜ r ≡ reply (carry day (self .kernel) c) ⌝ }
     {
         let record = bytes_of(c);

@@ -14,24 +14,6 @@ use layout::Numbers;
 // The list of a call that takes none.
 pub(crate) const NO_LIST: Numbers = [0, 0, 0, 0];
 
-fn plain_call(mark: Mark, number: u8, priority: u8, len: u8, list: Numbers, first: u32) -> Call
-    ensures { λ r. ⌜ r ≡ plainCall mark number priority len list first ⌝ }
-{
-    let head = Head {
-        mark,
-        number,
-        priority,
-        len,
-        kind: 0,
-        interrupt: 0,
-        endkind: 0,
-        first,
-        period: 0,
-        endtime: 0,
-    };
-    Call { head, list }
-}
-
 impl Rack {
     // The call with these fields, the others 0.
     pub(crate) fn plain(
@@ -45,6 +27,18 @@ impl Rack {
     ) -> Reply
         ensures { λ r. ⌜ r ≡ reply (carry day (self .kernel) (plainCall mark number priority len list first)) ⌝ }
     {
-        self.carry(plain_call(mark, number, priority, len, list, first))
+        let head = Head {
+            mark,
+            number,
+            priority,
+            len,
+            kind: 0,
+            interrupt: 0,
+            endkind: 0,
+            first,
+            period: 0,
+            endtime: 0,
+        };
+        self.carry(Call { head, list })
     }
 }

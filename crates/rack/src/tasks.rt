@@ -12,33 +12,27 @@ use layout::Call;
 use layout::Head;
 use layout::Mark;
 
-fn activation(task: u8, priority: u8, start: StartCondition) -> Call
-    ensures { λ r. ⌜ r ≡ activateCall task priority start ⌝ }
-{
-    let head = Head {
-        mark: Mark::AC,
-        number: task,
-        priority,
-        len: 0,
-        kind: start.kind,
-        interrupt: start.interrupt,
-        endkind: start.endkind,
-        first: start.first,
-        period: start.period,
-        endtime: start.endtime,
-    };
-    Call {
-        head,
-        list: NO_LIST,
-    }
-}
-
 impl Rack {
     // At once or by a start condition. Priority 0: the declared one.
     pub fn activate(self, task: u8, priority: u8, start: StartCondition) -> Reply
         ensures { λ r. ⌜ r ≡ reply (carry day (self .kernel) (activateCall task priority start)) ⌝ }
     {
-        self.carry(activation(task, priority, start))
+        let head = Head {
+            mark: Mark::AC,
+            number: task,
+            priority,
+            len: 0,
+            kind: start.kind,
+            interrupt: start.interrupt,
+            endkind: start.endkind,
+            first: start.first,
+            period: start.period,
+            endtime: start.endtime,
+        };
+        self.carry(Call {
+            head,
+            list: NO_LIST,
+        })
     }
 
     pub fn terminate(self, task: u8) -> Reply

@@ -1,5 +1,6 @@
 -- The engine's step, handed on.
 use borrow.Author.Needs.{needs}
+use Rattle.rack.specs.Reply.{reply}
 use Rattle.rack.proofs.Replies.{step-replies}
 use Rattle.rack.proofs.Rack.step.Statement.{statement}
 use Rattle.rack.proofs.Rack.step.Tie as tie
@@ -7,11 +8,9 @@ use Rattle.rack.proofs.Rack.step.Tie as tie
 step-requires : tie.Need-step-requires
 step-requires c κs = search needs
 
-replied-requires : tie.Need-replied-requires
-replied-requires c κs = search needs
-
 returns : tie.Need-returns
+unfolding reply
 returns c = search (needs, step-replies)
 
 pub step-spec : {M : Type 1} → statement M
-step-spec = tie.close (tie.spec step-requires replied-requires returns)
+step-spec = tie.close (tie.spec step-requires returns)
