@@ -9,7 +9,7 @@ use native.Mathlib.Omega.{arith}
 use lib.Bits.{bitOr, or-shifted-r}
 use lib.ListN.{length, take, drop, set, length-map}
 use lib.Seq.{length-take-le, set-getD}
-use borrow.Author.Tests.{lt-ltb, le-ltb, leb-true, ltb-true, ltb-false}
+use borrow.Author.Tests.{lt-ltb, le-ltb, leb-true, not-true}
 use Rattle.calendar.specs.Limits.{lastInstant, isTimeOfDay}
 use Rattle.calendar.specs.declared.Instant.{Instant}
 use Rattle.layout.specs.declared.Mark.the-variants.{TI}
@@ -20,33 +20,36 @@ use Rattle.task.specs.State.{noTask, runnable}
 use Rattle.task.specs.Turns.{unmarked, triggerTurn}
 use Rattle.task.specs.declared.Task.{Task}
 use Rattle.task.specs.declared.Turn.{Turn}
+use Rattle.task.proofs.Waits.{NoNewWait}
 use Rattle.kernel.specs.Sets.{setOf}
 use Rattle.kernel.specs.State.{mostTasks, taskAt, enabledAt, withState, begunAt}
 use Rattle.kernel.specs.Work.{noWork, turns, everyTurn}
 use Rattle.kernel.specs.Running.{runner, runningOf}
+use Rattle.kernel.specs.Serving.{nextServed}
 use Rattle.kernel.specs.Test.{valid, isPriority, keptOk, holdOk, restOk, waitOk, scheduleOk, taskOk, allBelow, countsOk, nobodyServable}
 use Rattle.kernel.specs.Refusals.{stateRefusalOf}
 use Rattle.kernel.specs.Calls.{trigger}
 use Rattle.kernel.specs.Step.{refuse, finish, orRefuse}
 use Rattle.kernel.specs.declared.Kernel.{Kernel}
 use Rattle.kernel.specs.declared.Stepped.{Stepped}
-use Rattle.kernel.proofs.Below.{all-at, all-from}
+use Rattle.kernel.proofs.Below.{all-at, all-from, mostUrgent-none}
 use Rattle.kernel.proofs.Facts.{TaskOk, task-test, task-untest}
 use Rattle.kernel.proofs.Passed.{tested}
 use Rattle.kernel.proofs.Works.{turn-at, every-length}
 use Rattle.kernel.proofs.Sets.{setOf-lt}
 use Rattle.survey.proofs.TestLaws.{wait-of}
 use Rattle.survey.specs.Looks.{putIf, waitsOk, nobody, taskOf}
-use Rattle.serving.specs.Ends.{marksOf, workHere, servedOf}
+use Rattle.serving.specs.Ends.{marksOf, served, workHere, servedOf}
 use Rattle.serving.specs.declared.ends.Marks.{Marks}
 use Rattle.engine.proofs.TurnCases.{sound}
 use lib.Dec.{leb, ltb}
 use Rattle.record.specs.Refusals.{mostValue}
 use Rattle.kernel.specs.declared.Counts.{Counts}
 use Rattle.kernel.specs.declared.Running.{Running}
+use Rattle.kernel.specs.declared.Running.the-variants.{Idle}
 use Rattle.survey.proofs.KernelFacts.{Good, tasks-long, current-fits}
-use Rattle.survey.proofs.LeastLaws.{Bounded, leastOf, canRun, least-none, least-found, runs-next}
-use Rattle.serving.proofs.ServeLaws.{NoneWaits, none-more, next-none, served-idle}
+use Rattle.serving.proofs.ServeLaws.{served-idle}
+use Rattle.serving.proofs.WaitLaws.{servable-idle, servable-as}
 
 -- ---- a set with one more place
 
@@ -138,17 +141,8 @@ module _ (f : Task → Turn) (k : Kernel) where
   made-all n e h =
       (h .kernel ∙ ap (λ (x : ℕ). withState (tasksAfter f x (k .tasks)) (k .locks) (k .enabled) k) e, h .marks ∙ ap (λ (x : ℕ). marksAfter f x (k .tasks)) e)
 
-  -- The task whose turn was made last is as it is once all are made.
-  pub made-at : (n : Instant) (i : ℕ) {next : Kernel} {m : Marks} → k .counts .tasks ≤ length (k .tasks) → i < k .counts .tasks
-      → Made f k (i + 1) next m → taskAt (next .tasks) i ≡ taskAt (everyTurn k n f .tasks) i
-  unfolding tasksAfter everyTurn
-  made-at n i room l h =
-      ap (λ (q : Kernel). taskAt (q .tasks) i) (h .kernel)
-      ∙ turn-at (i + 1) f (k .tasks) (omega arith) i (omega arith)
-      ∙ sym (turn-at (k .counts .tasks) f (k .tasks) room i l)
-
   module _ (i : ℕ) (l : i < length (k .tasks)) {next : Kernel} {m : Marks} (h : Made f k i next m) where
-    task-now : taskAt (next .tasks) i ≡ taskAt (k .tasks) i
+    pub task-now : taskAt (next .tasks) i ≡ taskAt (k .tasks) i
     task-now = ap (λ (q : Kernel). taskAt (q .tasks) i) (h .kernel) ∙ after-later f i i (k .tasks) (omega arith)
 
     made-turn : (u : Turn) → u ≡ f (taskAt (next .tasks) i)
@@ -214,50 +208,27 @@ module _ (day : ℕ) (k : Kernel) (v : valid day k ≡ true) where
       (λ i l. rw (turn-at (k .counts .tasks) f (k .tasks) room i l)
       (wait-of day (k .counts) _ (task-test day (k .counts) _ (keeps (taskAt (k .tasks) i) (task-untest day (k .counts) (taskAt (k .tasks) i) (all-at (k .counts .tasks) _ (sound day k v .tasks) i l))))))))
 
-  -- They keep what bounds the urgencies, too.
-  pub every-bounded : Good k → (n : Instant) (f : Task → Turn)
-      → ((t : Task) → TaskOk day (k .counts) t → TaskOk day (k .counts) (f t .task)) → Bounded (everyTurn k n f .tasks)
-  unfolding everyTurn tasksAfter
-  every-bounded g n f keeps =
-      let c = k .counts .tasks in
-      let long = tasks-long k g in
-      let room : c ≤ length (k .tasks) = omega (arith, long, tested day k v .fits .tasks) in
-      record {
-        long = every-length k n f room ∙ long;
-        range = λ i. byBool (ltb i c)
-            (λ e. let l = ltb-true i c e in
-            let t = taskAt (k .tasks) i in
-            let p = f t .task .current in
-            let q = keeps t (task-untest day (k .counts) t (all-at c _ (sound day k v .tasks) i l)) .current-ok in
-            rw (turn-at c f (k .tasks) room i l) (omega (arith, leb-true p 255 (both (leb 1 p) (leb p 255) q .1))))
-            (λ e. rw (after-later f c i (k .tasks) (ltb-false i c e)) (current-fits k g i));
-      }
+-- ---- turns that begin no wait
 
--- ---- a scan on the way, of the tasks as they are once all turns are made
-
--- A scan has seen the first i tasks: the least urgency of those that can run, and whether one waits.
-pub record Seen (ts : List Task) (i least : ℕ) (waits : Bool) : Type 0 where
-  pub runs : least ≡ leastOf i (canRun ts) ts
-  pub none : waits ≡ false → NoneWaits i ts
-
-pub seen-none : (ts : List Task) → Seen ts 0 nobody false
-seen-none ts = record { runs = sym (least-none _ _); none = λ e j l. absurd (not-suc-le-zero l) }
-
-pub seen-more : (ts : List Task) → Bounded ts → (i : ℕ) → i < mostTasks → (t : Task) → t ≡ taskAt ts i → {least r : ℕ} {waits runs w : Bool}
-    → Seen ts i least waits → runs ≡ runnable t → w ≡ waiting (t .wait)
-    → r ≡ cond (runs && ltb (mostTasks * t .current + i) least) (mostTasks * t .current + i) least
-    → Seen ts (i + 1) r (waits || w)
-seen-more ts f i l t e {waits = waits} {w = w} h a b q =
-    record {
-      runs = runs-next ts f i l (a ∙ ap runnable e) (h .runs) (rw e at q);
-      none = λ z. let y = neither waits w z in none-more i ts (h .none (y .0)) (ap (λ (t : Task). waiting (t .wait)) (sym e) ∙ sym b ∙ y .1);
-    }
-
--- A scan that has seen them all has found who runs.
-pub seen-all : (ts : List Task) → Bounded ts → (n : ℕ) → n ≤ mostTasks → {i least : ℕ} {waits : Bool} → i ≡ n → Seen ts i least waits
-    → (taskOf least ≡ runningOf n ts) × (waits ≡ false → NoneWaits n ts)
-unfolding runningOf
-seen-all ts f n l e h = (rw (h .runs, e) (least-found (canRun ts) ts f n l), rw e at (h .none))
+-- They leave nobody to serve.
+pub every-idle : (day : ℕ) (k : Kernel) → valid day k ≡ true → length (k .tasks) ≡ mostTasks → (n : Instant) (f : Task → Turn)
+    → ((t : Task) → NoNewWait t (f t .task)) → nextServed (k .counts .tasks) (served (everyDone k n f) 0) ≡ Idle
+unfolding everyTurn nobodyServable
+every-idle day k v long n f new =
+    let c = k .counts .tasks in
+    let ts = everyTurn k n f .tasks in
+    let room : c ≤ length (k .tasks) = omega (arith, long, tested day k v .fits .tasks) in
+    mostUrgent-none c _ _
+    (λ i l. byBool (waiting (taskAt ts i .wait))
+    (λ w.
+    let t = taskAt (k .tasks) i in
+    let e : taskAt ts i ≡ f t .task = turn-at c f (k .tasks) room i l in
+    let s = new t (ap (λ (u : Task). waiting (u .wait)) (sym e) ∙ w) in
+    servable-as c ts (k .locks) i w
+    ∙ rw (e, s .0, s .1, s .2)
+    (sym (servable-as c (k .tasks) (k .locks) i (ap waiting (sym (s .0)) ∙ ap (λ (u : Task). waiting (u .wait)) (sym e) ∙ w))
+    ∙ not-true _ (all-at c _ (sound day k v .stuck) i l)))
+    (servable-idle c ts (k .locks) i))
 
 -- The end of a call after which the task r runs, with nobody served.
 abbrev pub unserved : Kernel → Marks → Running → Stepped
@@ -267,14 +238,14 @@ unserved k m r =
       answer = record { number = 0; running = r; due = m .due; started = m .started; ended = m .ended; lost = m .lost; granted = m .granted };
     }
 
-unserved-finish : (k : Kernel) (m : Marks) {r : Running} → NoneWaits (k .counts .tasks) (k .tasks) → r ≡ runner k → unserved k m r ≡ finish k (workHere k m)
+unserved-finish : (k : Kernel) (m : Marks) {r : Running} → nextServed (k .counts .tasks) (served k 0) ≡ Idle → r ≡ runner k → unserved k m r ≡ finish k (workHere k m)
 unfolding finish servedOf
-unserved-finish k m h e = rw (e, served-idle k (m .granted) (next-none k h))
+unserved-finish k m h e = rw (e, served-idle k (m .granted) h)
 
--- So it ends where nobody waits once every task has had its turn.
+-- So it ends where nobody is to be served once every task has had its turn.
 pub every-unserved : (k : Kernel) (n : Instant) (f : Task → Turn) {next : Kernel} {m : Marks} {r : Running}
     → next ≡ everyDone k n f → m ≡ marksOf (everyTurn k n f)
-    → NoneWaits (k .counts .tasks) (everyTurn k n f .tasks) → r ≡ runningOf (k .counts .tasks) (everyTurn k n f .tasks)
+    → nextServed (k .counts .tasks) (served (everyDone k n f) 0) ≡ Idle → r ≡ runningOf (k .counts .tasks) (everyTurn k n f .tasks)
     → unserved next m r ≡ finish k (everyTurn k n f)
 every-unserved k n f a b h e = rw (a, b) (unserved-finish (everyDone k n f) (marksOf (everyTurn k n f)) h e) ∙ every-finish k n f refl refl
 

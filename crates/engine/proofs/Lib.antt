@@ -4,6 +4,7 @@ pub mod RefusalLaws
 pub mod TurnCases
 pub mod AskLaws
 pub mod EveryTask
+pub mod TickRuns
 pub mod CallLaws
 pub mod ChangeLaws
 pub mod StirLaws

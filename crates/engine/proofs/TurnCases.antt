@@ -82,6 +82,7 @@ pub record Sound (day : ℕ) (k : Kernel) : Type 0 where
   pub counts : countsOk (k .counts) ≡ true
   pub tasks : allBelow (k .counts .tasks) (λ i. taskOk day (k .counts) (taskAt (k .tasks) i)) ≡ true
   pub waits : waitsOk k ≡ true
+  pub stuck : nobodyServable k ≡ true
 
 pub sound : (day : ℕ) (k : Kernel) → valid day k ≡ true → Sound day k
 unfolding valid waitsOk
@@ -99,6 +100,7 @@ sound day k e =
       waits =
           and-both (f .1)
           (all-from (n .tasks) _ (λ i l. wait-of day n (taskAt (k .tasks) i) (all-at (n .tasks) _ (b .1) i l)));
+      stuck = a .1;
     }
 
 -- ---- ACTIVATE

@@ -20,6 +20,12 @@ use Rattle.kernel.specs.declared.Kernel.{Kernel}
 abbrev pub isTick : List ℕ → Bool
 isTick s = eqb (length s) 24 && eqb (getD s 0 0) 84 && eqb (getD s 1 0) 73 && allZero (drop 2 s)
 
+-- A tick to n may stir a delayed task, and one with n as its next due x.
+abbrev pub mayStir : Instant → Hold → Instant → Bool
+mayStir n Unheld x = eqb (x .0) (n .0)
+mayStir n Suspended x = eqb (x .0) (n .0)
+mayStir n (Delayed m) x = true
+
 -- The sooner of s and n, where n comes (b) and is after now.
 abbrev pub earlier : ℕ → Instant → Bool → Instant → ℕ
 earlier s now b n = cond (b && ltb (now .0) (n .0)) (min (n .0) s) s

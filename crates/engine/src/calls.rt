@@ -35,7 +35,7 @@ use serving::ends::finished;
 use survey::look::survey;
 
 // A call or declaration that no formal ground refuses: its state refusals, or what it does.
-fn carry_out(k: Kernel, h: Head, list: Numbers, r: Running) -> Stepped
+fn carry_out(mut k: Kernel, h: Head, list: Numbers, r: Running) -> Stepped
     requires { ⌜ valid day k ≡ true ⌝ }
     requires { ⌜ r ≡ runner k ⌝ }
     requires { ⌜ formalRefusal day (k .counts) (k .begun) (callWith h list) ≡ 0 ⌝ }
@@ -62,10 +62,9 @@ fn carry_out(k: Kernel, h: Head, list: Numbers, r: Running) -> Stepped
             let c = change_of(h, list, t, locks, k.clock, now);
             let task = c.task;
             let locks = c.locks;
-            let mut next = k;
-            next.tasks[i] = task;
-            next.locks = locks;
-            finished(next, marks_of(i, c))
+            k.tasks[i] = task;
+            k.locks = locks;
+            finished(k, marks_of(i, c))
         }
     }
 }

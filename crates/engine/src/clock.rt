@@ -13,25 +13,27 @@ ghost use Rattle.kernel.specs.Calls.{tick, trigger, enable};
 ghost use Rattle.kernel.specs.Step.{finish, orRefuse};
 ghost use Rattle.survey.specs.Looks.{putIf, waitsOk};
 ghost use Rattle.serving.specs.Ends.{marksOf};
+ghost use Rattle.engine.specs.Stirring.{mayStir};
 ghost use Rattle.layout.specs.declared.Mark.{Mark};
 ghost use Rattle.layout.specs.declared.Call.{Call};
 use crate::declarations::answered;
 use calendar::Duration;
+use calendar::Instant;
 use calendar::LAST_INSTANT;
 use kernel::Answer;
 use kernel::Kernel;
 use kernel::Running;
 use kernel::Stepped;
-use lock::is_waiting;
 use serving::ends::Marks;
 use serving::ends::done;
 use serving::ends::finished;
 use serving::ends::only_granted;
 use survey::scan::NOBODY;
-use survey::scan::can_run;
 use survey::scan::nearest;
 use survey::scan::task_of;
+use survey::scan::urgency_of;
 use survey::sets::put_if;
+use task::Hold;
 use task::Turn;
 
 // A kernel at work, and the sets so far.
@@ -69,36 +71,46 @@ fn answer_of(m: Marks, r: Running) -> Answer
     }
 }
 
+// Whether a tick to n may stir a task, held so, with this next due.
+fn may_stir(hold: Hold, next: Instant, n: Instant) -> bool
+    ensures { λ r. ⌜ r ≡ mayStir n hold next ⌝ }
+{
+    match hold {
+        Hold::Unheld => next.0 == n.0,
+        Hold::Suspended => next.0 == n.0,
+        Hold::Delayed(_) => true,
+    }
+}
+
 // Each declared task's turn at a trigger of the enabled interrupt.
-pub(crate) fn trigger_all(k: Kernel, interrupt: u8) -> Working
+pub(crate) fn trigger_all(mut k: Kernel, interrupt: u8) -> Working
     requires { ⌜ k .counts .tasks ≤ mostTasks ⌝ }
     requires { ⌜ k .now .0 ≤ lastInstant ⌝ }
     ensures { λ r. ⌜ (r .kernel ≡ withState (everyTurn k (k .now) (triggerTurn day (k .clock) (k .now) interrupt) .tasks) (k .locks) (k .enabled) k) × (r .marks ≡ marksOf (everyTurn k (k .now) (triggerTurn day (k .clock) (k .now) interrupt))) ⌝ }
 {
     let counts = k.counts;
     let most = counts.tasks as usize;
-    let mut next = k;
     let n = k.now;
     let clock = k.clock;
     let mut m = only_granted(0);
     for i in 0..most {
-        let t = next.tasks[i];
+        let t = k.tasks[i];
         if t.listens_to(interrupt) {
             let u = t.trigger(clock, n, interrupt);
             let after = u.task;
-            next.tasks[i] = after;
+            k.tasks[i] = after;
             m = marked(m, i, u);
         }
     }
     Working {
-        kernel: next,
+        kernel: k,
         marks: m,
     }
 }
 
-// Each declared task's turn at a tick, and on the way a look at who runs after it and whether one waits.
-// A task is read whole only where it stirs.
-pub(crate) fn ticked(k: Kernel, r: Running) -> Stepped
+// Each declared task's turn at a tick: those that it may stir, since the others stay as they are. No turn makes a
+// task less urgent, so the task that ran or one that had its turn runs. No turn begins a wait, so nobody is served.
+pub(crate) fn ticked(mut k: Kernel, r: Running) -> Stepped
     requires { ⌜ valid day k ≡ true ⌝ }
     requires { ⌜ r ≡ runner k ⌝ }
     ensures { λ s. ⌜ ((c : Call) → s ≡ orRefuse k (stateRefusalOf Mark.TI k c) (finish k (tick k))) ⌝ }
@@ -110,33 +122,30 @@ pub(crate) fn ticked(k: Kernel, r: Running) -> Stepped
     let n = now.plus(Duration(1));
     let counts = k.counts;
     let most = counts.tasks as usize;
-    let mut next = k;
     let mut m = only_granted(0);
     let mut least = NOBODY;
-    let mut waits = false;
+    if let Running::Runs(j) = r {
+        let at = j as usize;
+        least = urgency_of(k.tasks[at].current, at);
+    }
     for i in 0..most {
-        let t = next.tasks[i];
-        if t.stirs_at(n) {
-            let whole = next.tasks[i];
+        let t = k.tasks[i];
+        let hold = t.hold;
+        let schedule = t.schedule;
+        let alarm = schedule.alarm;
+        if may_stir(hold, alarm.next, n) {
+            let whole = k.tasks[i];
             let u = whole.tick(n);
             let after = u.task;
-            next.tasks[i] = after;
+            k.tasks[i] = after;
             m = marked(m, i, u);
+            least = nearest(least, after.is_runnable(), after.current, i);
         }
-        let z = next.tasks[i];
-        let wait = z.wait;
-        let hold = z.hold;
-        let runs = can_run(next.tasks[i].alive, wait, hold);
-        waits = waits | is_waiting(wait);
-        least = nearest(least, runs, next.tasks[i].current, i);
     }
-    next.now = n;
-    if waits {
-        return finished(next, m);
-    }
-    next.begun = true;
+    k.now = n;
+    k.begun = true;
     Stepped {
-        kernel: next,
+        kernel: k,
         answer: answer_of(m, task_of(least)),
     }
 }
@@ -156,12 +165,11 @@ pub(crate) fn triggered(k: Kernel, i: u8) -> Stepped
 }
 
 // ENABLE and DISABLE.
-pub(crate) fn enabled_as(k: Kernel, i: usize, b: bool) -> Stepped
+pub(crate) fn enabled_as(mut k: Kernel, i: usize, b: bool) -> Stepped
     requires { ⌜ waitsOk k ≡ true ⌝ }
     requires { ⌜ i < k .counts .interrupts ⌝ }
     ensures { λ s. ⌜ s ≡ finish k (enable k i b) ⌝ }
 {
-    let mut next = k;
-    next.enabled[i] = b;
-    done(next)
+    k.enabled[i] = b;
+    done(k)
 }

@@ -40,7 +40,7 @@ pub fn is_tick(s: &[u8]) -> bool
 }
 
 // A tick that stirs nobody only moves the instant.
-pub fn quiet_tick(k: Kernel, r: Running) -> Stepped
+pub fn quiet_tick(mut k: Kernel, r: Running) -> Stepped
     requires { ⌜ valid day k ≡ true ⌝ }
     requires { ⌜ r ≡ runner k ⌝ }
     requires { ⌜ stirsNext k ≡ false ⌝ }
@@ -49,10 +49,9 @@ pub fn quiet_tick(k: Kernel, r: Running) -> Stepped
 {
     let now = k.now;
     let n = now.plus(Duration(1));
-    let mut next = k;
-    next.now = n;
-    next.begun = true;
-    answered(next, 0, r)
+    k.now = n;
+    k.begun = true;
+    answered(k, 0, r)
 }
 
 // The sooner of s and n, where n comes and is after now.

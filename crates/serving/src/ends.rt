@@ -83,7 +83,7 @@ fn next_served(k: Kernel) -> Running
 }
 
 // Task i is granted the whole list that it waits on.
-fn grant_to(k: Kernel, i: usize) -> Kernel
+fn grant_to(mut k: Kernel, i: usize) -> Kernel
     requires { ⌜ waitsOk k ≡ true ⌝ }
     requires { ⌜ i < k .counts .tasks ⌝ }
     requires { ⌜ servable (k .counts .tasks) (k .tasks) (k .locks) i ≡ true ⌝ }
@@ -96,10 +96,9 @@ fn grant_to(k: Kernel, i: usize) -> Kernel
     let locks = k.locks;
     let left = locks.take_all(wait, m, list);
     let over = t.awake();
-    let mut next = k;
-    next.locks = left;
-    next.tasks[i] = over;
-    next
+    k.locks = left;
+    k.tasks[i] = over;
+    k
 }
 
 // While there is one to be served, the next is granted.
@@ -149,7 +148,7 @@ fn finished_serving(k: Kernel, m: Marks) -> Stepped
 
 // Every accepted call ends so. The kernel has had its work done, and the marks say what was done. Where nobody waits
 // or none that waits could be granted, there is nobody to serve.
-pub fn finished(k: Kernel, m: Marks) -> Stepped
+pub fn finished(mut k: Kernel, m: Marks) -> Stepped
     requires { ⌜ waitsOk k ≡ true ⌝ }
     ensures { λ r. ⌜ r ≡ finish k (workHere k m) ⌝ }
 {
@@ -170,10 +169,9 @@ pub fn finished(k: Kernel, m: Marks) -> Stepped
             return finished_serving(k, m);
         }
     }
-    let mut next = k;
-    next.begun = true;
+    k.begun = true;
     Stepped {
-        kernel: next,
+        kernel: k,
         answer: Answer {
             number: 0,
             running: task_of(least),

@@ -1,6 +1,6 @@
--- One task in the kernel test: by its priorities, by its schedule, and by whether it is at ease.
+-- One task in the kernel test: by its priorities, by its schedule, by a start kept back, and by whether it is at ease.
 use mathlib.Core.Path.{_≡_, refl}
-use mathlib.Core.Bool.{Bool, true, false, not, _&&_, _||_, and-true, and-false, or-true, or-false}
+use mathlib.Core.Bool.{Bool, true, false, not, _&&_, _||_, and-true, and-false, and-assoc, or-true, or-false}
 use Prim.Native.Nat.{ℕ}
 use lib.Dec.{eqb}
 use Rattle.calendar.specs.declared.Instant.{Instant}
@@ -9,7 +9,7 @@ use Rattle.lock.specs.declared.Locks.{Locks}
 use Rattle.lock.specs.declared.Wait.{Wait}
 use Rattle.lock.specs.declared.Wait.the-variants.{Nothing, Request, Reserve, Enter}
 use Rattle.lock.proofs.Bools.{contra}
-use Rattle.task.specs.State.{wanted}
+use Rattle.task.specs.State.{unheld, isKept, runnable, wanted}
 use Rattle.task.specs.Schedules.{pending, onInterrupt, falls}
 use Rattle.task.specs.Turns.{delayEnds}
 use Rattle.task.specs.declared.Alarm.{Alarm}
@@ -74,30 +74,45 @@ falls-none x a = go (a .plan)
     go Armed e = refl
     go Triggered e = contra refl e
 
+-- ---- a start kept back: there is none, or its task lives and it has a priority
+
+pub record Starts (alive : Bool) (k : Kept) : Type 0 where
+  pub kept : keptOk k ≡ true
+  pub lives : (alive || not (isKept k)) ≡ true
+
+pub start-none : (a : Bool) (k : Kept) → isKept k ≡ false → Starts a k
+start-none a (Back p) e = contra refl e
+start-none a Empty e = record { kept = refl; lives = or-true a }
+
+pub start-kept : (a : Bool) (k : Kept) → (a && keptOk k) ≡ true → Starts a k
+start-kept false k e = contra e refl
+start-kept true k e = record { kept = e; lives = refl }
+
 -- ---- at ease
 
-pub record Eased (k : Kept) (w : Wait) (h : Hold) : Type 0 where
-  pub kept : keptOk k ≡ true
+pub record Eased (w : Wait) (h : Hold) : Type 0 where
   pub waits : waiting w ≡ false
   pub hold : holdOk h ≡ true
+  pub free : unheld h ≡ true
   pub ends : (x : Instant) → delayEnds x h ≡ false
 
-pub eased : (k : Kept) (w : Wait) (h : Hold) → atEase k w h ≡ true → Eased k w h
-eased (Back p) w h e = contra e refl
-eased Empty Request h e = contra e refl
-eased Empty Reserve h e = contra e refl
-eased Empty Enter h e = contra e refl
-eased Empty Nothing Suspended e = contra e refl
-eased Empty Nothing (Delayed n) e = contra e refl
-eased Empty Nothing Unheld e = record { kept = refl; waits = refl; hold = refl; ends = λ x. refl }
+pub eased : (w : Wait) (h : Hold) → atEase w h ≡ true → Eased w h
+eased Request h e = contra e refl
+eased Reserve h e = contra e refl
+eased Enter h e = contra e refl
+eased Nothing Suspended e = contra e refl
+eased Nothing (Delayed n) e = contra e refl
+eased Nothing Unheld e = record { waits = refl; hold = refl; free = refl; ends = λ x. refl }
+
+-- It can run if it lives.
+pub eased-runs : (t : Task) → atEase (t .wait) (t .hold) ≡ true → t .alive ≡ runnable t
+eased-runs t e = let q = eased (t .wait) (t .hold) e in rw (q .free, q .waits, and-true, and-true)
 
 -- ---- one task
 
-pub busy-left :
-    (n : Counts) (r : Locks) (t : Task) → t .alive ≡ true → keptOk (t .kept) ≡ true → holdOk (t .hold) ≡ true
-    → busyOk n r t ≡ waitSettled n r t
+pub busy-left : (n : Counts) (r : Locks) (t : Task) → t .alive ≡ true → holdOk (t .hold) ≡ true → busyOk n r t ≡ waitSettled n r t
 unfolding busyOk
-busy-left n r t a k h = rw (a, k, h)
+busy-left n r t a h = rw (a, h)
 
 module _ (day : ℕ) (n : Counts) (r : Locks) (t : Task) where
   pub odd-priority : (isPriority (t .declared) && isPriority (t .current)) ≡ false → fit day n r t ≡ false
@@ -108,35 +123,42 @@ module _ (day : ℕ) (n : Counts) (r : Locks) (t : Task) where
   unfolding fit taskOk
   odd-schedule e = rw (e, and-false)
 
-  pub odd-busy : atEase (t .kept) (t .wait) (t .hold) ≡ false → busyOk n r t ≡ false → fit day n r t ≡ false
-  unfolding fit taskOk busyOk waitSettled
-  odd-busy e = rw (e, or-false) (go (isPriority (t .declared) && isPriority (t .current)) (keptOk (t .kept)) (holdOk (t .hold)) (t .alive) _ _ _)
+  pub odd-kept : isKept (t .kept) ≡ true → (t .alive && keptOk (t .kept)) ≡ false → fit day n r t ≡ false
+  unfolding fit taskOk
+  odd-kept k e = rw (k, or-false) (go (isPriority (t .declared) && isPriority (t .current)) (keptOk (t .kept)) (holdOk (t .hold)) (t .alive) _ _ _ e)
     where
-      go : (p k h a w s g : Bool) → (a && k && h && (w && g)) ≡ false → (p && k && h && a && w && s && g) ≡ false
-      go false k h a w s g e = refl
-      go true false h a w s g e = refl
-      go true true false a w s g e = refl
-      go true true true false w s g e = refl
-      go true true true true false s g e = refl
-      go true true true true true false g e = refl
-      go true true true true true true g e = e
+      go : (p k h a w s g : Bool) → (a && k) ≡ false → (p && k && h && a && w && s && g) ≡ false
+      go p k h false w s g e = rw and-false
+      go p k h true w s g e = rw (e, and-false)
+
+  pub odd-busy : atEase (t .wait) (t .hold) ≡ false → busyOk n r t ≡ false → fit day n r t ≡ false
+  unfolding fit taskOk busyOk waitSettled
+  odd-busy e = rw (and-assoc (not (isKept (t .kept))), e, and-false, or-false) (go (isPriority (t .declared) && isPriority (t .current) && keptOk (t .kept)) (holdOk (t .hold)) (t .alive) _ _ _)
+    where
+      go : (p h a w s g : Bool) → (a && h && (w && g)) ≡ false → (p && h && a && w && s && g) ≡ false
+      go false h a w s g e = refl
+      go true false a w s g e = refl
+      go true true false w s g e = refl
+      go true true true false s g e = refl
+      go true true true true false g e = refl
+      go true true true true true g e = e
 
   module _
       (priorities : (isPriority (t .declared) && isPriority (t .current)) ≡ true)
-      (schedule : scheduleOk day (n .interrupts) (t .schedule .alarm .plan) (t .schedule) ≡ true) where
-    pub fit-eased : atEase (t .kept) (t .wait) (t .hold) ≡ true → fit day n r t ≡ true
+      (schedule : scheduleOk day (n .interrupts) (t .schedule .alarm .plan) (t .schedule) ≡ true)
+      (start : Starts (t .alive) (t .kept)) where
+    pub fit-eased : atEase (t .wait) (t .hold) ≡ true → fit day n r t ≡ true
     unfolding fit taskOk
     fit-eased e =
-        let q = eased (t .kept) (t .wait) (t .hold) e in
-        rw (priorities, q .kept, q .hold, e, or-true, q .waits, schedule)
+        let q = eased (t .wait) (t .hold) e in
+        rw (priorities, start .kept, q .hold, and-assoc (not (isKept (t .kept))), e, and-true, start .lives, q .waits, schedule)
 
     pub fit-busy : busyOk n r t ≡ true → fit day n r t ≡ true
     unfolding fit taskOk busyOk waitSettled
-    fit-busy = rw (priorities, schedule) (go (keptOk (t .kept)) (holdOk (t .hold)) (t .alive) _ _ _)
+    fit-busy = rw (priorities, schedule, start .kept) (go (holdOk (t .hold)) (t .alive) _ _ _)
       where
-        go : (k h a e w g : Bool) → (a && k && h && (w && g)) ≡ true → (k && h && (a || e) && w && true && g) ≡ true
-        go k h false e w g x = contra x refl
-        go false h true e w g x = contra x refl
-        go true false true e w g x = contra x refl
-        go true true true e false g x = contra x refl
-        go true true true e true g x = x
+        go : (h a e w g : Bool) → (a && h && (w && g)) ≡ true → (h && (a || e) && w && true && g) ≡ true
+        go h false e w g x = contra x refl
+        go false true e w g x = contra x refl
+        go true true e false g x = contra x refl
+        go true true e true g x = x

@@ -7,9 +7,8 @@ use Rattle.calendar.specs.Times.{duration, plus}
 use Rattle.lock.specs.Locks.{waiting, grantable}
 use Rattle.lock.specs.declared.Locks.{Locks}
 use Rattle.lock.specs.declared.Wait.{Wait}
-use Rattle.task.specs.State.{unheld, isKept, wanted}
+use Rattle.task.specs.State.{unheld, wanted}
 use Rattle.task.specs.declared.Hold.{Hold}
-use Rattle.task.specs.declared.Kept.{Kept}
 use Rattle.task.specs.declared.Plan.{Plan}
 use Rattle.task.specs.declared.Plan.the-variants.{None, Clock, Armed, Triggered}
 use Rattle.task.specs.declared.Task.{Task}
@@ -17,7 +16,7 @@ use Rattle.kernel.specs.Sets.{put}
 use Rattle.kernel.specs.State.{mostTasks, taskAt}
 use Rattle.kernel.specs.Quiet.{comes}
 use Rattle.kernel.specs.Running.{runner}
-use Rattle.kernel.specs.Test.{allBelow, countsOk, keptOk, holdOk, waitOk, valid}
+use Rattle.kernel.specs.Test.{allBelow, countsOk, holdOk, waitOk, valid}
 use Rattle.kernel.specs.declared.Counts.{Counts}
 use Rattle.kernel.specs.declared.Kernel.{Kernel}
 use Rattle.kernel.specs.declared.Running.{Running}
@@ -50,17 +49,17 @@ planned Clock = true
 planned Armed = true
 planned Triggered = true
 
--- No start kept back, waiting for nothing, unheld.
-abbrev pub atEase : Kept → Wait → Hold → Bool
-atEase k w h = not (isKept k) && not (waiting w) && unheld h
+-- Waiting for nothing, unheld.
+abbrev pub atEase : Wait → Hold → Bool
+atEase w h = not (waiting w) && unheld h
 
 -- It waits for nothing, or on a list in order that could not be granted.
 unfoldable pub waitSettled : Counts → Locks → Task → Bool
 waitSettled n r t = waitOk n t && not (waiting (t .wait) && grantable (t .wait) r (wanted t))
 
--- What the test asks of a task that isn't at ease, beside its priorities and its schedule.
+-- What the test asks of a task that isn't at ease, beside its priorities, its schedule and a start kept back.
 unfoldable pub busyOk : Counts → Locks → Task → Bool
-busyOk n r t = t .alive && keptOk (t .kept) && holdOk (t .hold) && waitSettled n r t
+busyOk n r t = t .alive && holdOk (t .hold) && waitSettled n r t
 
 -- ---- all of it
 

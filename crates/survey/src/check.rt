@@ -152,13 +152,20 @@ pub fn are_priorities(p: u8, q: u8) -> bool
     is_priority(q)
 }
 
-// No start kept back, waiting for nothing, unheld.
-pub fn is_at_ease(kept: Kept, wait: Wait, hold: Hold) -> bool
-    ensures { λ r. ⌜ r ≡ atEase kept wait hold ⌝ }
+// A start is kept back for a living task alone, and with a priority.
+pub fn is_kept_right(alive: bool, kept: Kept) -> bool
+    ensures { λ r. ⌜ r ≡ (alive && keptOk kept) ⌝ }
 {
-    if kept.is_back() {
+    if !alive {
         return false;
     }
+    is_kept_ok(kept)
+}
+
+// Waiting for nothing, unheld.
+pub fn is_at_ease(wait: Wait, hold: Hold) -> bool
+    ensures { λ r. ⌜ r ≡ atEase wait hold ⌝ }
+{
     if is_waiting(wait) {
         return false;
     }
@@ -213,17 +220,13 @@ fn is_wait_settled(n: Counts, locks: Locks, t: Task) -> bool
     !locks.is_grantable(wait, len, list)
 }
 
-// The test of a task that isn't at ease, beside its priorities and its schedule.
+// The test of a task that isn't at ease, beside its priorities, its schedule and a start kept back.
 pub fn is_busy_ok(n: Counts, locks: Locks, t: Task) -> bool
     requires { ⌜ countsOk n ≡ true ⌝ }
     ensures { λ r. ⌜ r ≡ busyOk n locks t ⌝ }
 {
-    let kept = t.kept;
     let hold = t.hold;
     if !t.alive {
-        return false;
-    }
-    if !is_kept_ok(kept) {
         return false;
     }
     if !is_hold_ok(hold) {

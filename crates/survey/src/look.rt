@@ -8,6 +8,7 @@ use crate::check::are_counts_ok;
 use crate::check::are_priorities;
 use crate::check::is_at_ease;
 use crate::check::is_busy_ok;
+use crate::check::is_kept_right;
 use crate::check::is_planned;
 use crate::check::is_schedule_ok;
 use crate::scan::NOBODY;
@@ -65,17 +66,27 @@ pub fn survey(k: Kernel) -> Survey
         }
         let t = k.tasks[i];
         let kept = t.kept;
+        if kept.is_back() {
+            let t = k.tasks[i];
+            let kept = t.kept;
+            if !is_kept_right(k.tasks[i].alive, kept) {
+                return unfit();
+            }
+        }
+        let t = k.tasks[i];
         let wait = t.wait;
         let hold = t.hold;
-        if !is_at_ease(kept, wait, hold) {
+        let mut runs = k.tasks[i].alive;
+        if !is_at_ease(wait, hold) {
             let t = k.tasks[i];
             if !is_busy_ok(counts, locks, t) {
                 return unfit();
             }
             let hold = t.hold;
             stirs = stirs | hold.ends_at(at);
+            runs = can_run(runs, wait, hold);
         }
-        least = nearest(least, can_run(k.tasks[i].alive, wait, hold), current, i);
+        least = nearest(least, runs, current, i);
     }
     Survey {
         ok: true,

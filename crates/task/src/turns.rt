@@ -3,7 +3,7 @@ ghost use mathlib.Core.Path.{_≡_};
 ghost use Prim.Native.Nat.{_≤_};
 ghost use Rattle.calendar.specs.Limits.{day, lastInstant, mostInstant};
 ghost use Rattle.task.specs.State.{runnable, waitOver, waitFor, unheld, suspended, isKept, withCurrent, withAlive, withKept, withHold, withSchedule};
-ghost use Rattle.task.specs.Turns.{unmarked, cleared, dueTurn, endTurn, preventTurn, orElse, suspendTurn, continueTurn, resumeTurn, delayEnds, wake, fallTurn, tickTurn, scheduleTurn, listens, triggerTurn, stirs};
+ghost use Rattle.task.specs.Turns.{unmarked, cleared, dueTurn, endTurn, preventTurn, orElse, suspendTurn, continueTurn, resumeTurn, delayEnds, wake, fallTurn, tickTurn, scheduleTurn, listens, triggerTurn};
 use crate::Hold;
 use crate::Kept;
 use crate::Schedule;
@@ -254,19 +254,6 @@ impl Task {
         ensures { λ r. ⌜ r ≡ tickTurn n self ⌝ }
     {
         self.wake(n).fall(n)
-    }
-
-    // Whether a tick to n changes the task.
-    pub fn stirs_at(self, n: Instant) -> bool
-        ensures { λ r. ⌜ r ≡ stirs n self ⌝ }
-    {
-        let hold = self.hold;
-        let s = self.schedule;
-        let alarm = s.alarm;
-        if hold.ends_at(n) {
-            return true;
-        }
-        alarm.falls_on(n)
     }
 
     // A schedule, from n on.

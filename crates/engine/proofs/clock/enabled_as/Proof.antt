@@ -7,8 +7,8 @@ use Rattle.engine.proofs.AskLaws.{interrupt-fits}
 use Rattle.engine.proofs.clock.enabled_as.Statement.{statement}
 use Rattle.engine.proofs.clock.enabled_as.Tie as tie
 
-element-write-next : tie.Need-element-write-next
-element-write-next c = interrupt-fits (c .args .k) (c .pre .0) (c .args .i) (c .pre .1)
+element-write-k : tie.Need-element-write-k
+element-write-k c = interrupt-fits (c .args .t1) (c .pre .0) (c .args .i) (c .pre .1)
 
 done-requires : tie.Need-done-requires
 unfolding waitsOk
@@ -19,4 +19,4 @@ unfolding finish onlyLocks
 returns c = c .done .ensures
 
 pub enabled-as-spec : {M : Type 1} → statement M
-enabled-as-spec = tie.close (tie.spec element-write-next done-requires returns)
+enabled-as-spec = tie.close (tie.spec element-write-k done-requires returns)

@@ -15,10 +15,10 @@ use Rattle.engine.proofs.clock.trigger_all.Statement.{statement}
 use Rattle.engine.proofs.clock.trigger_all.Tie as tie
 
 abbrev Inv-loop : tie.InvT-loop
-Inv-loop interrupt most next₀ n clock m₀ i₀ next m i = (i ≤ most) × Made (triggerTurn day clock n interrupt) next₀ i next m
+Inv-loop interrupt k₀ most n clock m₀ i₀ k m i = (i ≤ most) × Made (triggerTurn day clock n interrupt) k₀ i k m
 
 abbrev μ-loop : tie.MeasureT-loop
-μ-loop interrupt most next₀ n clock m₀ i₀ next m i = most - i
+μ-loop interrupt k₀ most n clock m₀ i₀ k m i = most - i
 
 cast-most : tie.Need-cast-most Inv-loop μ-loop
 cast-most c = search needs
@@ -59,7 +59,7 @@ loop-less c = search needs
 loop-again : tie.Need-loop-again Inv-loop μ-loop
 loop-again c =
     let s = c .before .before .before .before .before .before .before .before .before in
-    let k = s .args .k in
+    let k = s .args .t1 in
     let l = c .before .before .before .before .loop in
     let long = tasks-long k (s .good .0 .0, s .good .0 .1 .1) in
     let less : l .i < length (k .tasks) = omega (arith, long, c .before .before .before .loop-test .taken, s .pre .0) in

@@ -11,41 +11,23 @@ returns : tie.Need-returns
 unfolding busyOk
 returns c = rw (not-true (c .before .before .args .t .alive) (c .if1 .taken))
 
-is-kept-ok-requires : tie.Need-is-kept-ok-requires
-is-kept-ok-requires c κs = search needs
-
-returns-2 : tie.Need-returns-2
-unfolding busyOk
-returns-2 c = rw (not-false (c .before .before .before .before .args .t .alive) (c .before .before .if1 .left), ← c .before .is-kept-ok .ensures, not-true (c .before .is-kept-ok .result) (c .if2 .taken))
-
 is-hold-ok-requires : tie.Need-is-hold-ok-requires
 is-hold-ok-requires c κs = search needs
 
-returns-3 : tie.Need-returns-3
+returns-2 : tie.Need-returns-2
 unfolding busyOk
-returns-3 c = let p = c .before .before .before in
-    rw (not-false (p .before .before .before .args .t .alive) (p .before .if1 .left), ← p .is-kept-ok .ensures, not-false (p .is-kept-ok .result) (c .before .before .if2 .left), ← c .before .is-hold-ok .ensures, not-true (c .before .is-hold-ok .result) (c .if3 .taken))
+returns-2 c = rw (not-false (c .before .before .before .before .args .t .alive) (c .before .before .if1 .left), ← c .before .is-hold-ok .ensures, not-true (c .before .is-hold-ok .result) (c .if2 .taken))
 
 is-wait-settled-requires : tie.Need-is-wait-settled-requires
 is-wait-settled-requires c κs = search needs
 
-returns-4 : tie.Need-returns-4
-returns-4 c =
-    let p = c .before .before .before .before in
+returns-3 : tie.Need-returns-3
+returns-3 c =
+    let p = c .before .before in
     let a = p .before .before .before .args in
     c .is-wait-settled .ensures
-    ∙ sym (busy-left (a .n) (a .locks) (a .t) (not-false _ (p .before .if1 .left))
-    (sym (p .is-kept-ok .ensures) ∙ not-false _ (c .before .before .before .if2 .left))
-    (sym (c .before .before .is-hold-ok .ensures) ∙ not-false _ (c .before .if3 .left)))
+    ∙ sym (busy-left (a .n) (a .locks) (a .t) (not-false _ (p .before .if1 .left)) (sym (p .is-hold-ok .ensures) ∙ not-false _ (c .before .if2 .left)))
 
 pub is-busy-ok-spec : {M : Type 1} → statement M
 is-busy-ok-spec =
-    tie.close
-    (tie.spec
-    returns
-    is-kept-ok-requires
-    returns-2
-    is-hold-ok-requires
-    returns-3
-    is-wait-settled-requires
-    returns-4)
+    tie.close (tie.spec returns is-hold-ok-requires returns-2 is-wait-settled-requires returns-3)

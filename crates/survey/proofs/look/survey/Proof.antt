@@ -16,8 +16,8 @@ use Rattle.kernel.specs.Test.{isPriority, scheduleOk, allBelow, countsOk, valid
 use Rattle.kernel.specs.declared.Kernel.{Kernel}
 use Rattle.survey.specs.Looks.{unfit, surveyed}
 use Rattle.survey.proofs.Owned.{Owned}
-use Rattle.survey.proofs.LeastLaws.{bounds}
-use Rattle.survey.proofs.TaskFit.{plan-none, falls-none, eased, odd-priority, odd-schedule, odd-busy, fit-eased, fit-busy}
+use Rattle.survey.proofs.LeastLaws.{canRun, bounds}
+use Rattle.survey.proofs.TaskFit.{plan-none, falls-none, Starts, start-none, start-kept, eased, eased-runs, odd-priority, odd-schedule, odd-kept, odd-busy, fit-eased, fit-busy}
 use Rattle.survey.proofs.TestLaws.{fitAt, upto-fails, upto-all, out-of-range, timely, counted, tasks-fit, all-fit}
 use Rattle.survey.proofs.Surveying.{Looked, stirs-more, stirs-same, looked-none, looked-next, looked-stirs, looked-runs, unfit-is, fit-is}
 use Rattle.survey.proofs.look.survey.Statement.{statement}
@@ -93,32 +93,54 @@ falling c =
     ⊎-elim (λ w. stirs-more {a = i .before .loop .stirs} refl (w .7) (w .6 .ensures))
     (λ w. stirs-same {a = i .before .loop .stirs} refl (w .1) (falls-none (moment i) (one i .schedule .alarm) (sym (c .before .is-planned .ensures) ∙ w .0 .left))) (c .if3 .came)
 
+-- Where a start kept back has been looked at.
+abbrev U : Type 0
+U = tie.Joined5 Inv-loop μ-loop
+
+abbrev scheduled : U → S
+scheduled c = c .before .before .before
+
+abbrev turn : U → I
+turn c = here (prior (scheduled c))
+
+start : (c : U) → let t = one (turn c) in Starts (t .alive) (t .kept)
+start c =
+    let t = one (turn c) in
+    ⊎-elim (λ w. start-kept (t .alive) (t .kept) (sym (w .2 .ensures) ∙ not-false _ (w .3 .left)))
+    (λ w. start-none (t .alive) (t .kept) (sym (c .before .is-back .ensures) ∙ w .left)) (c .if5 .came)
+
 -- Where all of the task has been looked at.
 abbrev T : Type 0
-T = tie.Joined5 Inv-loop μ-loop
+T = tie.Joined7 Inv-loop μ-loop
 
-abbrev settled : T → S
-settled c = c .before .before .before
+abbrev started : T → U
+started c = c .before .before .before
 
-fits : (c : T) → let i = here (prior (settled c)) in fitAt day (kernel (passed i)) (i .before .loop .i) ≡ true
+fits : (c : T) → let i = turn (started c) in fitAt day (kernel (passed i)) (i .before .loop .i) ≡ true
 fits c =
-    let p = settled c in
-    let i = here (prior p) in
+    let u = started c in
+    let p = scheduled u in
+    let i = turn u in
     let k = kernel (passed i) in
-    ⊎-elim (λ w. fit-busy day (k .counts) (k .locks) (one i) (priorities p) (schedule p) (sym (w .2 .ensures) ∙ not-false _ (w .3 .left)))
-    (λ w. fit-eased day (k .counts) (k .locks) (one i) (priorities p) (schedule p) (sym (c .before .is-at-ease .ensures) ∙ not-false _ (w .0 .left)))
-    (c .if5 .came)
+    ⊎-elim (λ w. fit-busy day (k .counts) (k .locks) (one i) (priorities p) (schedule p) (start u) (sym (w .2 .ensures) ∙ not-false _ (w .3 .left)))
+    (λ w. fit-eased day (k .counts) (k .locks) (one i) (priorities p) (schedule p) (start u) (sym (c .before .is-at-ease .ensures) ∙ not-false _ (w .0 .left)))
+    (c .if7 .came)
 
 stirring :
-    (c : T) → let i = here (prior (settled c)) in
-    c .if5 .stirs ≡ (i .before .loop .stirs || falls (moment i) (one i .schedule .alarm) || delayEnds (moment i) (one i .hold))
+    (c : T) → let i = turn (started c) in
+    c .if7 .stirs ≡ (i .before .loop .stirs || falls (moment i) (one i .schedule .alarm) || delayEnds (moment i) (one i .hold))
 stirring c =
-    let p = settled c in
-    let i = here (prior p) in
+    let p = scheduled (started c) in
+    let i = turn (started c) in
     let t = one i in
-    ⊎-elim (λ w. stirs-more (falling p) (w .5) (w .4 .ensures))
-    (λ w. stirs-same (falling p) (w .1) (eased (t .kept) (t .wait) (t .hold) (sym (c .before .is-at-ease .ensures) ∙ not-false _ (w .0 .left)) .ends (moment i)))
-    (c .if5 .came)
+    ⊎-elim (λ w. stirs-more (falling p) (w .6) (w .4 .ensures))
+    (λ w. stirs-same (falling p) (w .1) (eased (t .wait) (t .hold) (sym (c .before .is-at-ease .ensures) ∙ not-false _ (w .0 .left)) .ends (moment i)))
+    (c .if7 .came)
+
+running : (c : T) → let i = turn (started c) in c .if7 .runs ≡ canRun (kernel (passed i) .tasks) (i .before .loop .i)
+running c =
+    let t = one (turn (started c)) in
+    ⊎-elim (λ w. w .7 ∙ w .5 .ensures) (λ w. w .2 ∙ eased-runs t (sym (c .before .is-at-ease .ensures) ∙ not-false _ (w .0 .left))) (c .if7 .came)
 
 -- ---- the needs
 
@@ -211,8 +233,8 @@ mul-t-3 c = omega (arith, room (here (prior c)))
 element-copy-out-t-3 : tie.Need-element-copy-out-t-3 Inv-loop μ-loop
 element-copy-out-t-3 c = omega (arith, room (here (prior c)))
 
-is-at-ease-requires : tie.Need-is-at-ease-requires Inv-loop μ-loop
-is-at-ease-requires c κs = search needs
+is-back-requires : tie.Need-is-back-requires Inv-loop μ-loop
+is-back-requires c κs = search needs
 
 mul-t-4 : tie.Need-mul-t-4 Inv-loop μ-loop
 mul-t-4 c = omega (arith, room (here (prior (c .before .before .before))))
@@ -220,8 +242,14 @@ mul-t-4 c = omega (arith, room (here (prior (c .before .before .before))))
 element-copy-out-t-4 : tie.Need-element-copy-out-t-4 Inv-loop μ-loop
 element-copy-out-t-4 c = omega (arith, room (here (prior (c .before .before .before))))
 
-is-busy-ok-requires : tie.Need-is-busy-ok-requires Inv-loop μ-loop
-is-busy-ok-requires c κs = known (passed (here (prior (c .before .before .before .before))))
+mul-is-kept-right : tie.Need-mul-is-kept-right Inv-loop μ-loop
+mul-is-kept-right c = omega (arith, room (here (prior (c .before .before .before .before))))
+
+element-copy-out-is-kept-right : tie.Need-element-copy-out-is-kept-right Inv-loop μ-loop
+element-copy-out-is-kept-right c = omega (arith, room (here (prior (c .before .before .before .before))))
+
+is-kept-right-requires : tie.Need-is-kept-right-requires Inv-loop μ-loop
+is-kept-right-requires c κs = search needs
 
 unfit-requires-4 : tie.Need-unfit-requires-4 Inv-loop μ-loop
 unfit-requires-4 c κs = search needs
@@ -233,46 +261,78 @@ returns-4 c =
     let i = here (prior (e .before .before)) in
     let k = kernel (passed i) in
     c .unfit4 .ensures
+    ∙ ends i (odd-kept day (k .counts) (k .locks) (one i)
+    (sym (e .is-back .ensures) ∙ b .before .before .if5 .taken)
+    (sym (b .is-kept-right .ensures) ∙ not-true _ (c .before .if6 .taken)))
+
+mul-t-5 : tie.Need-mul-t-5 Inv-loop μ-loop
+mul-t-5 c = omega (arith, room (turn c))
+
+element-copy-out-t-5 : tie.Need-element-copy-out-t-5 Inv-loop μ-loop
+element-copy-out-t-5 c = omega (arith, room (turn c))
+
+mul-runs : tie.Need-mul-runs Inv-loop μ-loop
+mul-runs c = omega (arith, room (turn (c .before)))
+
+element-copy-out-runs : tie.Need-element-copy-out-runs Inv-loop μ-loop
+element-copy-out-runs c = omega (arith, room (turn (c .before)))
+
+is-at-ease-requires : tie.Need-is-at-ease-requires Inv-loop μ-loop
+is-at-ease-requires c κs = search needs
+
+mul-t-6 : tie.Need-mul-t-6 Inv-loop μ-loop
+mul-t-6 c = omega (arith, room (turn (c .before .before .before)))
+
+element-copy-out-t-6 : tie.Need-element-copy-out-t-6 Inv-loop μ-loop
+element-copy-out-t-6 c = omega (arith, room (turn (c .before .before .before)))
+
+is-busy-ok-requires : tie.Need-is-busy-ok-requires Inv-loop μ-loop
+is-busy-ok-requires c κs = known (passed (turn (c .before .before .before .before)))
+
+unfit-requires-5 : tie.Need-unfit-requires-5 Inv-loop μ-loop
+unfit-requires-5 c κs = search needs
+
+returns-5 : tie.Need-returns-5 Inv-loop μ-loop
+returns-5 c =
+    let b = c .before .before in
+    let e = b .before .before .before in
+    let i = turn (e .before .before) in
+    let k = kernel (passed i) in
+    c .unfit5 .ensures
     ∙ ends i (odd-busy day (k .counts) (k .locks) (one i)
-    (sym (e .is-at-ease .ensures) ∙ not-true _ (b .before .before .if5 .taken))
-    (sym (b .is-busy-ok .ensures) ∙ not-true _ (c .before .if6 .taken)))
+    (sym (e .is-at-ease .ensures) ∙ not-true _ (b .before .before .if7 .taken))
+    (sym (b .is-busy-ok .ensures) ∙ not-true _ (c .before .if8 .taken)))
 
 ends-at-requires : tie.Need-ends-at-requires Inv-loop μ-loop
 ends-at-requires c κs = search needs
-
-mul-can-run : tie.Need-mul-can-run Inv-loop μ-loop
-mul-can-run c = omega (arith, room (here (prior (settled c))))
-
-element-copy-out-can-run : tie.Need-element-copy-out-can-run Inv-loop μ-loop
-element-copy-out-can-run c = omega (arith, room (here (prior (settled c))))
 
 can-run-requires : tie.Need-can-run-requires Inv-loop μ-loop
 can-run-requires c κs = search needs
 
 nearest-requires : tie.Need-nearest-requires Inv-loop μ-loop
-nearest-requires c κs = room (here (prior (settled (c .before))))
+nearest-requires c κs = room (turn (started c))
 
 add-i : tie.Need-add-i Inv-loop μ-loop
-add-i c = omega (arith, room (here (prior (settled (c .before .before)))))
+add-i c = omega (arith, room (turn (started (c .before))))
 
 loop-less : tie.Need-loop-less Inv-loop μ-loop
 loop-less c =
-    let i = here (prior (settled (c .before .before))) in
+    let i = turn (started (c .before)) in
     omega (arith, i .loop-test .taken)
 
 loop-again : tie.Need-loop-again Inv-loop μ-loop
 loop-again c =
-    let t = c .before .before in
-    let i = here (prior (settled t)) in
+    let t = c .before in
+    let i = turn (started t) in
     let k = kernel (passed i) in
     looked-next day k (moment i) (bounds k (good (passed i))) (few (passed i)) (i .before .loop .inv) (i .loop-test .taken)
-    (fits t) (stirring t) (c .before .can-run .ensures) (c .nearest .ensures)
+    (fits t) (stirring t) (running t) (c .nearest .ensures)
 
 task-of-requires : tie.Need-task-of-requires Inv-loop μ-loop
 task-of-requires c κs = search needs
 
-returns-5 : tie.Need-returns-5 Inv-loop μ-loop
-returns-5 c =
+returns-6 : tie.Need-returns-6 Inv-loop μ-loop
+returns-6 c =
     let l = c .before .before in
     let p = l .before .before .before .before in
     let k = kernel p in
@@ -311,19 +371,29 @@ survey-spec =
     falls-on-requires
     mul-t-3
     element-copy-out-t-3
-    is-at-ease-requires
+    is-back-requires
     mul-t-4
     element-copy-out-t-4
-    is-busy-ok-requires
+    mul-is-kept-right
+    element-copy-out-is-kept-right
+    is-kept-right-requires
     unfit-requires-4
     returns-4
+    mul-t-5
+    element-copy-out-t-5
+    mul-runs
+    element-copy-out-runs
+    is-at-ease-requires
+    mul-t-6
+    element-copy-out-t-6
+    is-busy-ok-requires
+    unfit-requires-5
+    returns-5
     ends-at-requires
-    mul-can-run
-    element-copy-out-can-run
     can-run-requires
     nearest-requires
     add-i
     loop-less
     loop-again
     task-of-requires
-    returns-5)
+    returns-6)
