@@ -10,9 +10,7 @@ use lib.Dec.{leb, ltb}
 use Rattle.calendar.specs.declared.Instant.{Instant}
 use Rattle.calendar.specs.declared.Start.{Start}
 use Rattle.calendar.specs.declared.Start.the-variants.{Now, At, After}
-use Rattle.calendar.specs.declared.End.{End}
 use Rattle.calendar.specs.declared.End.the-variants.{Open, Until, During}
-use Rattle.calendar.specs.declared.Moment.{Moment}
 use Rattle.calendar.specs.declared.Moment.the-variants.{Never, At as Then}
 use Rattle.calendar.specs.Limits.{day, longestDuration, mostInstant, isDuration}
 use Rattle.calendar.specs.Times.{duration, plus, timeOfDay, until}

@@ -1,9 +1,8 @@
 -- When a start comes due: first, last and next (document 01, "Start kinds").
-use mathlib.Core.Bool.{Bool, true, false, _&&_, cond}
+use mathlib.Core.Bool.{Bool, true, _&&_, cond}
 use Prim.Native.Nat.{ℕ}
 use lib.Dec.{leb, ltb}
 use Rattle.calendar.specs.declared.Instant.{Instant}
-use Rattle.calendar.specs.declared.Duration.{Duration}
 use Rattle.calendar.specs.declared.Start.{Start}
 use Rattle.calendar.specs.declared.Start.the-variants.{Now, At, After}
 use Rattle.calendar.specs.declared.End.{End}

@@ -1,7 +1,7 @@
 -- What a call or declaration that no formal ground refuses has passed, and what it comes to by its mark.
 use mathlib.Core.Path.{_≡_, refl, sym, ap, _∙_}
 use mathlib.Core.Bool.{true, false, cond, _&&_}
-use mathlib.Core.List.{List, [], _∷_}
+use mathlib.Core.List.{List, []}
 use Prim.Native.Nat.{ℕ, zero, suc, _≤_, _<_, _%_}
 use lib.Dec.{leb, ltb}
 use lib.ListN.{take, drop}
@@ -30,13 +30,9 @@ use Rattle.kernel.specs.declared.Running.{Running}
 use Rattle.kernel.specs.declared.Running.the-variants.{Idle}
 use Rattle.kernel.specs.declared.Stepped.{Stepped}
 use Rattle.kernel.proofs.Passed.{unless-passed, Formal, formal}
+use Rattle.kernel.proofs.Done.{distinct-one}
 use Rattle.engine.specs.Inner.{accordingly}
 use Rattle.engine.proofs.RefusalLaws.{shaped-short}
-
-distinct-one : (l : List ℕ) → distinct (take 1 l) ≡ true
-unfolding distinct names
-distinct-one [] = refl
-distinct-one (x ∷ l) = refl
 
 -- A declaration that is none of the first four.
 pub last-declared : (m : Mark) → DC ≡ cond (declares m) m DC → declares m ≡ true → m ≡ DC

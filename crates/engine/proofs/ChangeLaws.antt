@@ -44,7 +44,8 @@ use Rattle.serving.specs.declared.ends.Marks.{Marks}
 use Rattle.serving.specs.Ends.{workHere}
 use Rattle.engine.specs.Inner.{accordingly}
 use Rattle.engine.specs.Changes.{runnerAt, placeOf, runnerFirst, refusalBy, InOrder, byTurn, asks, gives, changeOf, marksBy, changed}
-use Rattle.engine.proofs.TurnCases.{wait-stays, places-fit, wait-at, waits-changed, sound, no-wait-activate}
+use Rattle.kernel.proofs.WorkPairs.{no-wait-activate}
+use Rattle.engine.proofs.TurnCases.{wait-stays, places-fit, wait-at, waits-changed, sound}
 use Rattle.engine.proofs.AskLaws.{list-below, wait-begins}
 use Rattle.engine.proofs.CallLaws.{known, Listed, list-some, list-one, no-list, start-known}
 

@@ -1,6 +1,6 @@
 -- The turns of all tasks, one after the other: what the tables and the sets are with the first i turns made.
 use mathlib.Core.Path.{_≡_, refl, sym, _∙_, ap}
-use mathlib.Core.Bool.{Bool, true, false, cond, _&&_, _||_}
+use mathlib.Core.Bool.{Bool, true, false}
 use mathlib.Core.List.{List, [], _∷_, _++_, map}
 use Prim.Native.Nat.{ℕ, zero, suc, _+_, _*_, _^_, _≤_, _<_}
 use native.Mathlib.Nat.{not-suc-le-zero, pow-suc, one-mul}
@@ -9,14 +9,14 @@ use native.Mathlib.Omega.{arith}
 use lib.Bits.{bitOr, or-shifted-r}
 use lib.ListN.{length, take, drop, set, length-map}
 use lib.Seq.{length-take-le, set-getD}
-use borrow.Author.Tests.{lt-ltb, le-ltb, leb-true, not-true}
-use Rattle.calendar.specs.Limits.{lastInstant, isTimeOfDay}
+use borrow.Author.Tests.{lt-ltb, le-ltb}
+use Rattle.calendar.specs.Limits.{lastInstant}
 use Rattle.calendar.specs.declared.Instant.{Instant}
 use Rattle.layout.specs.declared.Mark.the-variants.{TI}
 use Rattle.layout.specs.declared.Call.{Call}
-use Rattle.lock.specs.Locks.{bit, waiting, valueAt, boltAt}
-use Rattle.lock.proofs.Bools.{and-both, byBool, both, neither}
-use Rattle.task.specs.State.{noTask, runnable}
+use Rattle.lock.specs.Locks.{bit, waiting}
+use Rattle.lock.proofs.Bools.{and-both, byBool}
+use Rattle.task.specs.State.{noTask}
 use Rattle.task.specs.Turns.{unmarked, triggerTurn}
 use Rattle.task.specs.declared.Task.{Task}
 use Rattle.task.specs.declared.Turn.{Turn}
@@ -26,28 +26,24 @@ use Rattle.kernel.specs.State.{mostTasks, taskAt, enabledAt, withState, begunAt
 use Rattle.kernel.specs.Work.{noWork, turns, everyTurn}
 use Rattle.kernel.specs.Running.{runner, runningOf}
 use Rattle.kernel.specs.Serving.{nextServed}
-use Rattle.kernel.specs.Test.{valid, isPriority, keptOk, holdOk, restOk, waitOk, scheduleOk, taskOk, allBelow, countsOk, nobodyServable}
+use Rattle.kernel.specs.Test.{valid}
 use Rattle.kernel.specs.Refusals.{stateRefusalOf}
 use Rattle.kernel.specs.Calls.{trigger}
 use Rattle.kernel.specs.Step.{refuse, finish, orRefuse}
 use Rattle.kernel.specs.declared.Kernel.{Kernel}
 use Rattle.kernel.specs.declared.Stepped.{Stepped}
 use Rattle.kernel.proofs.Below.{all-at, all-from, mostUrgent-none}
-use Rattle.kernel.proofs.Facts.{TaskOk, task-test, task-untest}
-use Rattle.kernel.proofs.Passed.{tested}
-use Rattle.kernel.proofs.Works.{turn-at, every-length}
+use Rattle.kernel.proofs.Facts.{TaskOk, task-test, task-untest, nobody-untest}
+use Rattle.kernel.proofs.Passed.{parts, tested}
+use Rattle.kernel.proofs.Works.{turn-at}
 use Rattle.kernel.proofs.Sets.{setOf-lt}
 use Rattle.survey.proofs.TestLaws.{wait-of}
-use Rattle.survey.specs.Looks.{putIf, waitsOk, nobody, taskOf}
+use Rattle.survey.specs.Looks.{putIf, waitsOk}
 use Rattle.serving.specs.Ends.{marksOf, served, workHere, servedOf}
 use Rattle.serving.specs.declared.ends.Marks.{Marks}
 use Rattle.engine.proofs.TurnCases.{sound}
-use lib.Dec.{leb, ltb}
-use Rattle.record.specs.Refusals.{mostValue}
-use Rattle.kernel.specs.declared.Counts.{Counts}
 use Rattle.kernel.specs.declared.Running.{Running}
 use Rattle.kernel.specs.declared.Running.the-variants.{Idle}
-use Rattle.survey.proofs.KernelFacts.{Good, tasks-long, current-fits}
 use Rattle.serving.proofs.ServeLaws.{served-idle}
 use Rattle.serving.proofs.WaitLaws.{servable-idle, servable-as}
 
@@ -213,7 +209,7 @@ module _ (day : ℕ) (k : Kernel) (v : valid day k ≡ true) where
 -- They leave nobody to serve.
 pub every-idle : (day : ℕ) (k : Kernel) → valid day k ≡ true → length (k .tasks) ≡ mostTasks → (n : Instant) (f : Task → Turn)
     → ((t : Task) → NoNewWait t (f t .task)) → nextServed (k .counts .tasks) (served (everyDone k n f) 0) ≡ Idle
-unfolding everyTurn nobodyServable
+unfolding everyTurn
 every-idle day k v long n f new =
     let c = k .counts .tasks in
     let ts = everyTurn k n f .tasks in
@@ -227,7 +223,7 @@ every-idle day k v long n f new =
     servable-as c ts (k .locks) i w
     ∙ rw (e, s .0, s .1, s .2)
     (sym (servable-as c (k .tasks) (k .locks) i (ap waiting (sym (s .0)) ∙ ap (λ (u : Task). waiting (u .wait)) (sym e) ∙ w))
-    ∙ not-true _ (all-at c _ (sound day k v .stuck) i l)))
+    ∙ nobody-untest k (parts day k v .stuck) i l))
     (servable-idle c ts (k .locks) i))
 
 -- The end of a call after which the task r runs, with nobody served.

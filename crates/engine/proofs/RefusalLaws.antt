@@ -1,16 +1,12 @@
--- The first of several refusals, and what passes the first of them.
+-- What passes the first of the formal refusals.
 use mathlib.Core.Path.{_≡_, refl}
 use mathlib.Core.Bool.{Bool, true, false}
-use Prim.Native.Nat.{ℕ, zero, suc, _≤_}
+use Prim.Native.Nat.{_≤_}
 use native.Mathlib.Omega.{arith}
 use Rattle.layout.specs.declared.Call.{Call}
 use Rattle.layout.specs.Marks.{form}
-use Rattle.record.specs.Refusals.{mostNumbers, before, unless, formed, listed, shape}
+use Rattle.record.specs.Refusals.{mostNumbers, unless, formed, listed, shape}
 use Rattle.record.proofs.ShapeLaws.{formed-short}
-
-pub before-first : (n rest : ℕ) → (n ≡ 0 → ⊥) → n ≡ before n rest
-before-first zero rest h = absurd (h refl)
-before-first (suc n) rest h = refl
 
 -- A list of a shape that isn't refused is no longer than the longest.
 pub shaped-short : (c : Call) → shape c ≡ 0 → c .head .len ≤ mostNumbers

@@ -1,6 +1,6 @@
 -- What stirs nobody before an instant, and the bytes of a tick.
-use mathlib.Core.Path.{_≡_, refl, sym, ap, _∙_}
-use mathlib.Core.Bool.{Bool, true, false, not, cond, _&&_, _||_}
+use mathlib.Core.Path.{_≡_, refl, sym, _∙_}
+use mathlib.Core.Bool.{Bool, true, false, not, _&&_, _||_}
 use mathlib.Core.List.{List, [], _∷_}
 use Prim.Native.Nat.{ℕ, zero, suc, _+_, _≤_, _<_}
 use native.Mathlib.Numerals.{add-one}
@@ -12,7 +12,7 @@ use Rattle.calendar.specs.Limits.{lastInstant}
 use Rattle.calendar.specs.Times.{instant, duration, plus}
 use Rattle.calendar.specs.declared.Instant.{Instant}
 use Rattle.layout.specs.Fields.{bytesOf}
-use Rattle.lock.proofs.Bools.{byBool, byEq, contra, both, neither}
+use Rattle.lock.proofs.Bools.{byBool, byEq, contra, both}
 use Rattle.record.specs.Lists.{allZero}
 use Rattle.task.specs.Schedules.{falls, pending}
 use Rattle.task.specs.Turns.{delayEnds}
@@ -24,14 +24,14 @@ use Rattle.kernel.specs.Scripts.{oneTick}
 use Rattle.kernel.specs.State.{mostTasks, taskAt, begunAt}
 use Rattle.kernel.specs.Running.{runner}
 use Rattle.kernel.specs.Step.{refuse, step}
-use Rattle.kernel.specs.Test.{allBelow, valid}
+use Rattle.kernel.specs.Test.{valid}
 use Rattle.kernel.specs.declared.Running.{Running}
 use Rattle.kernel.specs.declared.Kernel.{Kernel}
 use Rattle.kernel.proofs.Below.{all-at}
 use Rattle.kernel.proofs.Quiet.{quiet-step}
 use Rattle.survey.specs.declared.Survey.{Survey}
 use Rattle.survey.specs.Looks.{stirsNext, surveyed}
-use Rattle.engine.specs.Stirring.{isTick, earlier, soonerHeld, sooner, quietAmong, quietBefore, QuietUntilThen}
+use Rattle.engine.specs.Stirring.{isTick, earlier, soonerHeld, sooner, quietAmong, QuietUntilThen}
 
 -- ---- the sooner of two
 

@@ -14,7 +14,7 @@ use Rattle.calendar.specs.declared.Instant.{Instant}
 use Rattle.lock.specs.Locks.{waiting}
 use Rattle.lock.proofs.Bools.{byBool, byEq, contra, both}
 use Rattle.task.specs.State.{noTask, runnable, unheld, withSchedule}
-use Rattle.task.specs.Schedules.{falls, pending, advance}
+use Rattle.task.specs.Schedules.{falls, advance}
 use Rattle.task.specs.Turns.{dueIf, delayEnds, wake, fallTurn, tickTurn, stirs}
 use Rattle.task.specs.declared.Hold.{Hold}
 use Rattle.task.specs.declared.Hold.the-variants.{Unheld, Suspended, Delayed}
@@ -24,7 +24,6 @@ use Rattle.task.specs.declared.Task.{Task}
 use Rattle.task.specs.declared.Turn.{Turn}
 use Rattle.kernel.specs.State.{mostTasks, taskAt}
 use Rattle.kernel.specs.Running.{urgency, runningOf}
-use Rattle.kernel.specs.declared.Running.{Running}
 use Rattle.kernel.specs.declared.Running.the-variants.{Idle, Runs}
 use Rattle.kernel.proofs.Below.{mostUrgent-at}
 use Rattle.survey.specs.Looks.{nobody, taskOf}

@@ -1,34 +1,31 @@
 -- Starts and ends by their kinds, and what the kernel test says of the tasks, the waits and the instant.
 use mathlib.Core.Path.{_≡_, refl}
-use mathlib.Core.Bool.{true, _&&_}
+use mathlib.Core.Bool.{true}
 use mathlib.Core.List.{List, [], _∷_}
 use mathlib.Core.Logic.{_⊎_, ⊎-elim, inl, inr}
 use Prim.Native.Nat.{ℕ, zero, suc, _≤_, _<_}
-use lib.Dec.{leb, eqb}
 use lib.ListN.{set}
 use lib.Seq.{getD-set-other}
 use borrow.Author.Tests.{leb-true, ne-eqb}
-use Rattle.calendar.specs.Limits.{lastInstant, isTimeOfDay}
+use Rattle.calendar.specs.Limits.{lastInstant}
 use Rattle.calendar.specs.Times.{duration}
-use Rattle.calendar.specs.declared.Instant.{Instant}
 use Rattle.calendar.specs.declared.Start.the-variants.{Now, After}
 use Rattle.calendar.specs.declared.End.the-variants.{During}
-use Rattle.layout.specs.declared.Head.{Head}
-use Rattle.record.specs.Refusals.{mostValue}
-use Rattle.lock.specs.Locks.{waiting, valueAt, boltAt}
+use Rattle.lock.specs.Locks.{waiting}
 use Rattle.lock.specs.declared.Locks.{Locks}
-use Rattle.lock.proofs.Bools.{byBool, byEq, both, and-both, or-then, then-or}
+use Rattle.lock.proofs.Bools.{byEq, both, and-both, or-then, then-or}
 use Rattle.task.specs.State.{noTask}
 use Rattle.task.specs.declared.Task.{Task}
-use Rattle.task.proofs.Waits.{NoNewWait, no-wait-due, no-wait-schedule}
-use Rattle.kernel.specs.Calls.{startOf, endOf, activateTurn}
+use Rattle.task.proofs.Waits.{NoNewWait}
+use Rattle.kernel.specs.Calls.{startOf, endOf}
 use Rattle.kernel.specs.State.{mostTasks, taskAt, withState}
-use Rattle.kernel.specs.Test.{waitOk, taskOk, allBelow, countsOk, nobodyServable, valid}
+use Rattle.kernel.specs.Test.{waitOk, taskOk, allBelow, countsOk, valid}
 use Rattle.kernel.specs.declared.Counts.{Counts}
 use Rattle.kernel.specs.declared.Kernel.{Kernel}
 use Rattle.kernel.proofs.Below.{all-at, all-from}
 use Rattle.survey.specs.Looks.{waitsOk}
-use Rattle.survey.proofs.TestLaws.{counts-fit, wait-of}
+use Rattle.kernel.proofs.Passed.{counts-fit, parts}
+use Rattle.survey.proofs.TestLaws.{wait-of}
 
 -- ---- starts and ends by their kinds
 
@@ -58,21 +55,21 @@ placed n (x ∷ l) zero t e = e
 placed n (x ∷ l) (suc i) t e = placed n l i t e
 
 module _ (k : Kernel) (e : waitsOk k ≡ true) where
-  parts : (countsOk (k .counts) ≡ true) × (allBelow (k .counts .tasks) (λ i. waitOk (k .counts) (taskAt (k .tasks) i)) ≡ true)
+  in-range : (countsOk (k .counts) ≡ true) × (allBelow (k .counts .tasks) (λ i. waitOk (k .counts) (taskAt (k .tasks) i)) ≡ true)
   unfolding waitsOk
-  parts = both (countsOk (k .counts)) _ e
+  in-range = both (countsOk (k .counts)) _ e
 
   pub places-fit : k .counts .tasks ≤ mostTasks
-  places-fit = counts-fit (k .counts) (parts .0) .tasks
+  places-fit = counts-fit (k .counts) (in-range .0) .tasks
 
   pub wait-at : (i : ℕ) → i < k .counts .tasks → waitOk (k .counts) (taskAt (k .tasks) i) ≡ true
-  wait-at = all-at (k .counts .tasks) (λ i. waitOk (k .counts) (taskAt (k .tasks) i)) (parts .1)
+  wait-at = all-at (k .counts .tasks) (λ i. waitOk (k .counts) (taskAt (k .tasks) i)) (in-range .1)
 
   -- With a task whose wait passes the test, whatever the locks are.
   pub waits-changed : (i : ℕ) (t : Task) (l : Locks) → waitOk (k .counts) t ≡ true → waitsOk (withState (set (k .tasks) i t) l (k .enabled) k) ≡ true
   unfolding waitsOk
   waits-changed i t l h =
-      and-both (parts .0)
+      and-both (in-range .0)
       (all-from (k .counts .tasks) _
       (λ j b. byEq j i (λ q. rw q (placed (k .counts) (k .tasks) i t h)) (λ q. rw (getD-set-other (k .tasks) i j t noTask q) (wait-at j b))))
 
@@ -82,30 +79,17 @@ pub record Sound (day : ℕ) (k : Kernel) : Type 0 where
   pub counts : countsOk (k .counts) ≡ true
   pub tasks : allBelow (k .counts .tasks) (λ i. taskOk day (k .counts) (taskAt (k .tasks) i)) ≡ true
   pub waits : waitsOk k ≡ true
-  pub stuck : nobodyServable k ≡ true
 
 pub sound : (day : ℕ) (k : Kernel) → valid day k ≡ true → Sound day k
-unfolding valid waitsOk
+unfolding waitsOk
 sound day k e =
     let n = k .counts in
-    let a = both _ (nobodyServable k) e in
-    let b = both _ (allBelow (n .tasks) (λ i. taskOk day n (taskAt (k .tasks) i))) (a .0) in
-    let c = both _ (allBelow (n .bolts) (λ b. leb (boltAt (k .locks) b .readers) mostValue)) (b .0) in
-    let d = both _ (allBelow (n .semaphores) (λ s. leb (valueAt (k .locks) s) mostValue)) (c .0) in
-    let f = both (leb (k .now .0) lastInstant && isTimeOfDay day (k .clock)) (countsOk n) (d .0) in
+    let p = parts day k e in
     record {
-      now = leb-true _ _ (both (leb (k .now .0) lastInstant) _ (f .0) .0);
-      counts = f .1;
-      tasks = b .1;
+      now = leb-true _ _ (p .now);
+      counts = p .counts;
+      tasks = p .tasks;
       waits =
-          and-both (f .1)
-          (all-from (n .tasks) _ (λ i l. wait-of day n (taskAt (k .tasks) i) (all-at (n .tasks) _ (b .1) i l)));
-      stuck = a .1;
+          and-both (p .counts)
+          (all-from (n .tasks) _ (λ i l. wait-of day n (taskAt (k .tasks) i) (all-at (n .tasks) _ (p .tasks) i l)));
     }
-
--- ---- ACTIVATE
-
-pub no-wait-activate : (day clock : ℕ) (n : Instant) (h : Head) (t : Task) → NoNewWait t (activateTurn day clock n h t .task)
-unfolding activateTurn
-no-wait-activate day clock n h t =
-    byBool (eqb (h .kind) 0) (λ e. rw e (no-wait-due t _)) (λ e. rw e (no-wait-schedule t n _))

@@ -1,5 +1,5 @@
 -- What an accepted call has passed; no refusal but the kernel test's has the number 1.
-use mathlib.Core.Path.{_≡_, refl}
+use mathlib.Core.Path.{_≡_}
 use mathlib.Core.Logic.{_≢_}
 use mathlib.Core.Bool.{Bool, true, false, not, _&&_}
 use mathlib.Core.List.{List}
@@ -29,14 +29,7 @@ use Rattle.kernel.specs.declared.Kernel.{Kernel}
 use Rattle.kernel.specs.State.{taskAt}
 use Rattle.kernel.specs.Running.{runner, someone}
 use Rattle.kernel.specs.Refusals.{declares, declaredIn, roomFor, formalRefusal, aliveAt, needsRunner, needsAlive, needsTaken, stateRefusalOf, refusalOf}
-
-pub passed : (b : Bool) (n rest : ℕ) → unless b (suc n) rest ≡ 0 → (b ≡ true) × (rest ≡ 0)
-passed true n rest e = (refl, e)
-passed false n rest e = absurd (omega arith)
-
-before-parts : (a b : ℕ) → before a b ≡ 0 → (a ≡ 0) × (b ≡ 0)
-before-parts zero b e = (refl, e)
-before-parts (suc a) b e = absurd (omega arith)
+use Rattle.kernel.proofs.Passed.{unless-passed, before-passed}
 
 -- A call with the mark m that no refusal from 2 on stops.
 pub record Passed (day : ℕ) (m : Mark) (k : Kernel) (c : Call) : Type 0 where
@@ -52,15 +45,15 @@ pub all-passed : (day : ℕ) (k : Kernel) (c : Call) → refusalOf day k c ≡ 0
 unfolding refusalOf formalRefusal shape formed times
 all-passed day k c e =
     let m = c .head .mark in
-    let a = before-parts (formalRefusal day (k .counts) (k .begun) c) (stateRefusalOf m k c) e in
-    let b = passed (not (k .begun && declares m)) 1 _ (a .0) in
-    let d = before-parts (shape c) _ (b .1) in
-    let f = passed (formed c) 2 _ (d .0) in
-    let l = passed (listed (form m) c) 3 0 (f .1) in
-    let g = passed (declaredIn m (k .counts) c) 4 _ (d .1) in
-    let h = before-parts (times day (c .head)) _ (g .1) in
-    let t = passed (timed day (form m) (c .head)) 5 0 (h .0) in
-    let r = passed (roomFor m (k .counts)) 6 0 (h .1) in
+    let a = before-passed (formalRefusal day (k .counts) (k .begun) c) (stateRefusalOf m k c) e in
+    let b = unless-passed (not (k .begun && declares m)) 1 _ (a .0) in
+    let d = before-passed (shape c) _ (b .1) in
+    let f = unless-passed (formed c) 2 _ (d .0) in
+    let l = unless-passed (listed (form m) c) 3 0 (f .1) in
+    let g = unless-passed (declaredIn m (k .counts) c) 4 _ (d .1) in
+    let h = before-passed (times day (c .head)) _ (g .1) in
+    let t = unless-passed (timed day (form m) (c .head)) 5 0 (h .0) in
+    let r = unless-passed (roomFor m (k .counts)) 6 0 (h .1) in
     record { unbegun = b .0; formed = f .0; listed = l .0; declared = g .0; timed = t .0; room = r .0; state = a .1 }
 
 -- ---- numbers

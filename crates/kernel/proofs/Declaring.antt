@@ -33,7 +33,8 @@ use Rattle.kernel.specs.Granting.{couldBeGranted, servable}
 use Rattle.kernel.specs.Test.{isPriority, termsOk, listenerOk, nextOk, scheduleOk}
 use Rattle.kernel.specs.Refusals.{roomFor}
 use Rattle.kernel.specs.Calls.{addTask, addSemaphore, addBolt, addInterrupt}
-use Rattle.kernel.proofs.Facts.{CountsOk, TaskOk, Bounded, bounded-of, KernelOk}
+use Rattle.kernel.proofs.Passed.{Fits}
+use Rattle.kernel.proofs.Facts.{TaskOk, Bounded, bounded-of, KernelOk}
 use Rattle.kernel.proofs.Accepting.{Passed}
 
 -- ---- with more declared
@@ -173,7 +174,7 @@ module _ (day : ℕ) (k : Kernel) (h : KernelOk day k) (c : Call) where
       }
 
   -- The tasks stay, and so do the locks that were declared before.
-  added : (m : Counts) (r : Locks) (es : List Bool) → m .tasks ≡ k .counts .tasks → CountsOk m → More (k .counts) m → SameSize (k .locks) r → length es ≡ length (k .enabled)
+  added : (m : Counts) (r : Locks) (es : List Bool) → m .tasks ≡ k .counts .tasks → Fits m → More (k .counts) m → SameSize (k .locks) r → length es ≡ length (k .enabled)
       → Bounded m r → ((w : Wait) (y : ℕ) → y < countOf (k .counts) w → free w r y ≡ free w (k .locks) y) → KernelOk day (withCounts m (withState (k .tasks) r es k))
   added m r es e o q s g b f =
       record {

@@ -40,7 +40,9 @@ use Rattle.kernel.specs.Invariants.{IsDay}
 use Rattle.kernel.proofs.Below.{mostUrgent-at}
 use Rattle.kernel.proofs.Facts.{Listed, TaskOk, KernelOk}
 use Rattle.kernel.proofs.Turns.{Good, good-end, good-prevent, good-suspend, good-continue, good-resume, good-tick, good-trigger, good-activate}
-use Rattle.kernel.proofs.Accepting.{passed, Passed}
+use Rattle.kernel.proofs.Passed.{unless-passed}
+use Rattle.kernel.proofs.Accepting.{Passed}
+use Rattle.kernel.proofs.Whole.{could-free}
 
 -- What a mark asks for, whether it waits for that, what it gives back, whether it prevents.
 pub record Role : Type 0 where
@@ -107,12 +109,7 @@ runs k i e =
     let b = both (taskAt (k .tasks) i .alive) _ (a .0) in
     (u .0, b .0, not-true _ (a .1))
 
--- What could be granted is free.
-pub could-free : (n : ℕ) (ts : List Task) (r : _) (q : ℕ) (w : Wait) (l : List ℕ) → couldBeGranted n ts r q w l ≡ true → grantable w r l ≡ true
-unfolding couldBeGranted
-could-free n ts r q w l e = e
-
-distinct-one : (l : List ℕ) → distinct (take 1 l) ≡ true
+pub distinct-one : (l : List ℕ) → distinct (take 1 l) ≡ true
 unfolding distinct names
 distinct-one [] = refl
 distinct-one (x ∷ l) = refl
@@ -209,31 +206,31 @@ module _ (day : ℕ) (isDay : IsDay day) (k : Kernel) (h : KernelOk day k) (c : 
   call-carried DC e p = contra refl e
   call-carried AC e p = carried (does-AC p)
   call-carried TE e p =
-      let a = passed (aliveAt k (c .head .number)) 9 0 (p .state) .0 in
+      let a = unless-passed (aliveAt k (c .head .number)) 9 0 (p .state) .0 in
       carried (does-named endTurn (p .declared) (λ t q o. good-end day (k .counts) t (rw q a) o))
   call-carried SU e p =
-      let a = passed (aliveAt k (c .head .number)) 9 _ (p .state) .0 in
+      let a = unless-passed (aliveAt k (c .head .number)) 9 _ (p .state) .0 in
       carried (does-named suspendTurn (p .declared) (λ t q o. good-suspend day (k .counts) t (rw q a) o))
   call-carried PR e p =
       let l = ltb-true _ _ (p .declared) in
       carried (turned true (c .head .number) _ l (λ z. refl) (good-prevent day (k .counts) _ (h .tasks-ok (c .head .number) l)))
   call-carried CO e p = carried (does-named (continueTurn (c .head .priority)) (p .declared) (λ t q o. good-continue day (k .counts) (c .head .priority) t byte o))
-  call-carried EN e p = carried (does-runner endTurn (passed (someone (runner k)) 7 0 (p .state) .0) (λ t a o. good-end day (k .counts) t a o))
-  call-carried RE e p = carried (does-resume (p .timed) (passed (someone (runner k)) 7 0 (p .state) .0))
-  call-carried RQ e p = carried (does-ask true Request refl (listed-many Request (p .formed) (p .listed) (p .declared)) (passed (someone (runner k)) 7 0 (p .state) .0))
+  call-carried EN e p = carried (does-runner endTurn (unless-passed (someone (runner k)) 7 0 (p .state) .0) (λ t a o. good-end day (k .counts) t a o))
+  call-carried RE e p = carried (does-resume (p .timed) (unless-passed (someone (runner k)) 7 0 (p .state) .0))
+  call-carried RQ e p = carried (does-ask true Request refl (listed-many Request (p .formed) (p .listed) (p .declared)) (unless-passed (someone (runner k)) 7 0 (p .state) .0))
   call-carried RL e p =
-      let a = passed (someone (runner k)) 7 _ (p .state) in
-      carried (gave Request (listed-many Request (p .formed) (p .listed) (p .declared)) (passed (every (taken Request (k .locks)) (named c)) 12 0 (a .1) .0))
-  call-carried TR e p = carried (does-ask false Request refl (listed-one Request (p .listed) (p .declared)) (passed (someone (runner k)) 7 0 (p .state) .0))
-  call-carried RS e p = carried (does-ask true Reserve refl (listed-many Reserve (p .formed) (p .listed) (p .declared)) (passed (someone (runner k)) 7 0 (p .state) .0))
+      let a = unless-passed (someone (runner k)) 7 _ (p .state) in
+      carried (gave Request (listed-many Request (p .formed) (p .listed) (p .declared)) (unless-passed (every (taken Request (k .locks)) (named c)) 12 0 (a .1) .0))
+  call-carried TR e p = carried (does-ask false Request refl (listed-one Request (p .listed) (p .declared)) (unless-passed (someone (runner k)) 7 0 (p .state) .0))
+  call-carried RS e p = carried (does-ask true Reserve refl (listed-many Reserve (p .formed) (p .listed) (p .declared)) (unless-passed (someone (runner k)) 7 0 (p .state) .0))
   call-carried FR e p =
-      let a = passed (someone (runner k)) 7 _ (p .state) in
-      carried (gave Reserve (listed-many Reserve (p .formed) (p .listed) (p .declared)) (passed (every (taken Reserve (k .locks)) (named c)) 13 0 (a .1) .0))
-  call-carried ET e p = carried (does-ask true Enter refl (listed-many Enter (p .formed) (p .listed) (p .declared)) (passed (someone (runner k)) 7 0 (p .state) .0))
+      let a = unless-passed (someone (runner k)) 7 _ (p .state) in
+      carried (gave Reserve (listed-many Reserve (p .formed) (p .listed) (p .declared)) (unless-passed (every (taken Reserve (k .locks)) (named c)) 13 0 (a .1) .0))
+  call-carried ET e p = carried (does-ask true Enter refl (listed-many Enter (p .formed) (p .listed) (p .declared)) (unless-passed (someone (runner k)) 7 0 (p .state) .0))
   call-carried LV e p =
-      let a = passed (someone (runner k)) 7 _ (p .state) in
-      carried (gave Enter (listed-many Enter (p .formed) (p .listed) (p .declared)) (passed (every (taken Enter (k .locks)) (named c)) 13 0 (a .1) .0))
+      let a = unless-passed (someone (runner k)) 7 _ (p .state) in
+      carried (gave Enter (listed-many Enter (p .formed) (p .listed) (p .declared)) (unless-passed (every (taken Enter (k .locks)) (named c)) 13 0 (a .1) .0))
   call-carried TG e p = carried (does-trigger (c .head .number))
   call-carried EI e p = carried (quiet (set (k .enabled) (c .head .number) true) (length-set (k .enabled) (c .head .number) true))
   call-carried XI e p = carried (quiet (set (k .enabled) (c .head .number) false) (length-set (k .enabled) (c .head .number) false))
-  call-carried TI e p = carried (does-tick (passed (ltb (k .now .0) lastInstant) 14 0 (p .state) .0))
+  call-carried TI e p = carried (does-tick (unless-passed (ltb (k .now .0) lastInstant) 14 0 (p .state) .0))

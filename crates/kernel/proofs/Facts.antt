@@ -7,7 +7,7 @@ use native.Mathlib.Omega.{arith}
 use lib.Dec.{ltb, leb}
 use lib.ListN.{length}
 use borrow.Author.Tests.{leb-true, le-leb, ltb-true, lt-ltb, not-true}
-use Rattle.calendar.specs.Limits.{lastInstant, isTimeOfDay}
+use Rattle.calendar.specs.Limits.{lastInstant}
 use Rattle.record.specs.Lists.{distinct}
 use Rattle.record.specs.Refusals.{mostValue, mostNumbers}
 use Rattle.lock.specs.Locks.{waiting, every, valueAt, boltAt, level}
@@ -21,11 +21,12 @@ use Rattle.task.specs.declared.Task.{Task}
 use Rattle.task.specs.Promises.{Rests}
 use Rattle.kernel.specs.declared.Counts.{Counts}
 use Rattle.kernel.specs.declared.Kernel.{Kernel}
-use Rattle.kernel.specs.State.{mostTasks, mostSemaphores, mostBolts, mostInterrupts, taskAt, countOf}
+use Rattle.kernel.specs.State.{taskAt, countOf}
 use Rattle.kernel.specs.Granting.{servable}
-use Rattle.kernel.specs.Test.{between, isPriority, keptOk, holdOk, scheduleOk, restOk, waitOk, taskOk, allBelow, countsOk, nobodyServable, valid}
+use Rattle.kernel.specs.Test.{between, isPriority, keptOk, holdOk, scheduleOk, restOk, waitOk, taskOk, countsOk, nobodyServable, valid}
 use Rattle.kernel.specs.Invariants.{Tables, Passes}
 use Rattle.kernel.proofs.Below.{all-at, all-from}
+use Rattle.kernel.proofs.Passed.{Fits, counts-fit, parts}
 
 -- A wait's list: one to four numbers, none twice, all declared.
 pub record Listed (n : Counts) (w : Wait) (len : ℕ) (l : List ℕ) : Type 0 where
@@ -42,12 +43,6 @@ pub record TaskOk (day : ℕ) (n : Counts) (t : Task) : Type 0 where
   pub listed : waiting (t .wait) ≡ true → Listed n (t .wait) (t .len) (wanted t)
   pub schedule-ok : scheduleOk day (n .interrupts) (t .schedule .alarm .plan) (t .schedule) ≡ true
 
-pub record CountsOk (n : Counts) : Type 0 where
-  pub tasks : n .tasks ≤ mostTasks
-  pub semaphores : n .semaphores ≤ mostSemaphores
-  pub bolts : n .bolts ≤ mostBolts
-  pub interrupts : n .interrupts ≤ mostInterrupts
-
 abbrev pub Bounded : Counts → Locks → Type 0
 Bounded n r = (v : Wait) (x : ℕ) → x < countOf n v → level v r x ≤ mostValue
 
@@ -55,7 +50,7 @@ pub record KernelOk (day : ℕ) (k : Kernel) : Type 0 where
   pub tables : Tables k
   pub now-ok : k .now .0 ≤ lastInstant
   pub clock-ok : k .clock < day
-  pub counts-ok : CountsOk (k .counts)
+  pub counts-ok : Fits (k .counts)
   pub bounded : Bounded (k .counts) (k .locks)
   pub tasks-ok : (i : ℕ) → i < k .counts .tasks → TaskOk day (k .counts) (taskAt (k .tasks) i)
   pub stuck : (i : ℕ) → i < k .counts .tasks → servable (k .counts .tasks) (k .tasks) (k .locks) i ≡ false
@@ -71,7 +66,7 @@ unfolding taskOk
 task-test day n t h =
     and-both (and-both (and-both (and-both (and-both (and-both (h .declared-ok) (h .current-ok)) (h .kept-ok)) (h .hold-ok)) (h .rests)) (wait-test n t (h .listed))) (h .schedule-ok)
 
-counts-test : (n : Counts) → CountsOk n → countsOk n ≡ true
+counts-test : (n : Counts) → Fits n → countsOk n ≡ true
 unfolding countsOk
 counts-test n h = and-both (and-both (and-both (le-leb _ _ (h .tasks)) (le-leb _ _ (h .semaphores))) (le-leb _ _ (h .bolts))) (le-leb _ _ (h .interrupts))
 
@@ -119,19 +114,6 @@ task-untest day n t e =
       schedule-ok = a .1;
     }
 
-counts-untest : (n : Counts) → countsOk n ≡ true → CountsOk n
-unfolding countsOk
-counts-untest n e =
-    let a = both _ (leb (n .interrupts) mostInterrupts) e in
-    let b = both _ (leb (n .bolts) mostBolts) (a .0) in
-    let c = both (leb (n .tasks) mostTasks) (leb (n .semaphores) mostSemaphores) (b .0) in
-    record {
-      tasks = leb-true _ _ (c .0);
-      semaphores = leb-true _ _ (c .1);
-      bolts = leb-true _ _ (b .1);
-      interrupts = leb-true _ _ (a .1);
-    }
-
 -- Values and readers that stay in their limits; a writer does anyway.
 pub bounded-of : (n : Counts) (r : Locks) → ((s : ℕ) → s < n .semaphores → valueAt r s ≤ mostValue) → ((b : ℕ) → b < n .bolts → boltAt r b .readers ≤ mostValue) → Bounded n r
 unfolding level
@@ -140,30 +122,24 @@ bounded-of n r f g Request x l = f x l
 bounded-of n r f g Reserve x l = omega (arith, bit-le (boltAt r x .writer))
 bounded-of n r f g Enter x l = g x l
 
-nobody-untest : (k : Kernel) → nobodyServable k ≡ true → (i : ℕ) → i < k .counts .tasks → servable (k .counts .tasks) (k .tasks) (k .locks) i ≡ false
+pub nobody-untest : (k : Kernel) → nobodyServable k ≡ true → (i : ℕ) → i < k .counts .tasks → servable (k .counts .tasks) (k .tasks) (k .locks) i ≡ false
 unfolding nobodyServable
 nobody-untest k e i l = not-true _ (all-at (k .counts .tasks) _ e i l)
 
 pub ok-of-passes : (day : ℕ) (k : Kernel) → Passes day k → KernelOk day k
-unfolding valid
 ok-of-passes day k p =
-    let z = both _ (nobodyServable k) (p .tested) in
-    let a = both _ (allBelow (k .counts .tasks) (λ i. taskOk day (k .counts) (taskAt (k .tasks) i))) (z .0) in
-    let b = both _ (allBelow (k .counts .bolts) (λ b. leb (boltAt (k .locks) b .readers) mostValue)) (a .0) in
-    let c = both _ (allBelow (k .counts .semaphores) (λ s. leb (valueAt (k .locks) s) mostValue)) (b .0) in
-    let d = both _ (countsOk (k .counts)) (c .0) in
-    let f = both (leb (k .now .0) lastInstant) (isTimeOfDay day (k .clock)) (d .0) in
+    let q = parts day k (p .tested) in
     record {
       tables = p .tables;
-      now-ok = leb-true _ _ (f .0);
-      clock-ok = ltb-true _ _ (f .1);
-      counts-ok = counts-untest (k .counts) (d .1);
+      now-ok = leb-true _ _ (q .now);
+      clock-ok = ltb-true _ _ (q .clock);
+      counts-ok = counts-fit (k .counts) (q .counts);
       bounded =
           bounded-of (k .counts) (k .locks)
-          (λ s l. leb-true _ _ (all-at (k .counts .semaphores) (λ (s : ℕ). leb (valueAt (k .locks) s) mostValue) (c .1) s l))
-          (λ x l. leb-true _ _ (all-at (k .counts .bolts) (λ (b : ℕ). leb (boltAt (k .locks) b .readers) mostValue) (b .1) x l));
-      tasks-ok = λ i l. task-untest day (k .counts) (taskAt (k .tasks) i) (all-at (k .counts .tasks) _ (a .1) i l);
-      stuck = nobody-untest k (z .1);
+          (λ s l. leb-true _ _ (all-at (k .counts .semaphores) (λ (s : ℕ). leb (valueAt (k .locks) s) mostValue) (q .values) s l))
+          (λ x l. leb-true _ _ (all-at (k .counts .bolts) (λ (b : ℕ). leb (boltAt (k .locks) b .readers) mostValue) (q .readers) x l));
+      tasks-ok = λ i l. task-untest day (k .counts) (taskAt (k .tasks) i) (all-at (k .counts .tasks) _ (q .tasks) i l);
+      stuck = nobody-untest k (q .stuck);
     }
 
 -- ---- lists in tables of the right sizes

@@ -16,7 +16,8 @@ use Rattle.lock.specs.declared.Wait.{Wait}
 use Rattle.lock.specs.declared.Wait.the-variants.{Nothing, Request, Reserve, Enter}
 use Rattle.lock.specs.declared.Locks.{Locks}
 use Rattle.lock.proofs.Bools.{both}
-use Rattle.lock.proofs.Alike.{below, every-below, Seen, free-same, taken-same}
+use Rattle.lock.proofs.Lists.{every-below}
+use Rattle.lock.proofs.Alike.{below, Seen, free-same, taken-same}
 use Rattle.task.specs.State.{unheld, suspended, wanted}
 use Rattle.task.specs.declared.Task.{Task}
 use Rattle.kernel.specs.declared.Counts.{Counts}

@@ -12,6 +12,7 @@ use Rattle.layout.specs.declared.Mark.{Mark}
 use Rattle.layout.specs.declared.Mark.the-variants.{DT, DS, DB, IT, DC, AC, TE, SU, PR, CO, EN, RE, RQ, RL, TR, RS, FR, ET, LV, TG, EI, XI, TI}
 use Rattle.layout.specs.declared.Call.{Call}
 use Rattle.record.specs.declared.Read.the-variants.{Refused, Accepted}
+use Rattle.record.proofs.ReaderLaws.{before-some}
 use Rattle.lock.proofs.Bools.{contra}
 use Rattle.kernel.specs.declared.Counts.{Counts}
 use Rattle.kernel.specs.declared.Kernel.{Kernel}
@@ -94,10 +95,6 @@ shape-first : (s t n : ℕ) → (t ≢ 0 → t ≡ 6) → before s t ≡ n → n
 shape-first zero t n f e h g = absurd (g (sym e ∙ f (λ z. h (sym e ∙ z))))
 shape-first (suc s) t n f e h g = e
 
-before-some : (n m : ℕ) → n ≢ 0 → before n m ≡ n
-before-some zero m h = absurd (h refl)
-before-some (suc n) m h = refl
-
 times-last : (s t : ℕ) → s ≢ 6 → before s t ≡ 6 → s ≡ 0
 times-last zero t h e = refl
 times-last (suc s) t h e = absurd (h e)
@@ -171,7 +168,7 @@ module _ (day : ℕ) (k : Kernel) (s : List ℕ) (c : Call) (v : valid day k ≡
   in-order =
       record {
         late = λ b d. step-on ∙ on-refused day k c 2 (two b d) (λ z. omega arith);
-        shaped = λ n l e g. by-reader n n e (rw (l, shape-read n e g) (before-some n _ (read n e .1)));
+        shaped = λ n l e g. by-reader n n e (rw (l, shape-read n e g) (sym (before-some n _ (read n e .1))));
         unknown = λ e d. by-reader 6 5 e (rw (and-false (k .begun) _ (not-declared (c .head .mark) (k .counts) c d), shape-passed e, d));
         timed = λ l e d. by-reader 6 6 e (rw (l, shape-passed e, d));
       }

@@ -2,7 +2,6 @@
 use mathlib.Core.Path.{_≡_, refl}
 use mathlib.Core.Bool.{Bool, true, false, not, _&&_}
 use Prim.Native.Nat.{ℕ, zero, suc, _≤_, _<_}
-use native.Mathlib.Nat.{not-suc-le-zero}
 use native.Mathlib.Omega.{arith}
 use lib.Dec.{leb, ltb}
 use borrow.Author.Tests.{leb-true, ltb-true, not-true}
@@ -11,9 +10,11 @@ use Rattle.record.specs.Refusals.{mostValue, mostNumbers, unless, before, shape
 use Rattle.record.specs.Lists.{distinct}
 use Rattle.layout.specs.declared.Mark.the-variants.{DT, DS, DB, IT}
 use Rattle.layout.specs.declared.Call.{Call}
-use Rattle.lock.specs.Locks.{waiting, every, valueAt, boltAt}
+use Rattle.lock.specs.Locks.{mostLocks, waiting, every, valueAt, boltAt}
+use Rattle.lock.specs.declared.Wait.{Wait}
+use Rattle.lock.specs.declared.Wait.the-variants.{Nothing, Request, Reserve, Enter}
 use Rattle.kernel.proofs.Below.{all-at}
-use Rattle.lock.proofs.Bools.{byEq, both}
+use Rattle.lock.proofs.Bools.{both}
 use Rattle.task.specs.State.{wanted}
 use Rattle.task.specs.declared.Task.{Task}
 use Rattle.kernel.specs.declared.Counts.{Counts}
@@ -91,6 +92,55 @@ pub record Fits (n : Counts) : Type 0 where
   pub bolts : n .bolts ≤ mostBolts
   pub interrupts : n .interrupts ≤ mostInterrupts
 
+pub counts-fit : (n : Counts) → countsOk n ≡ true → Fits n
+unfolding countsOk
+counts-fit n e =
+    let a = both _ (leb (n .interrupts) mostInterrupts) e in
+    let b = both _ (leb (n .bolts) mostBolts) (a .0) in
+    let c = both (leb (n .tasks) mostTasks) (leb (n .semaphores) mostSemaphores) (b .0) in
+    record {
+      tasks = leb-true _ _ (c .0);
+      semaphores = leb-true _ _ (c .1);
+      bolts = leb-true _ _ (b .1);
+      interrupts = leb-true _ _ (a .1);
+    }
+
+pub count-fits : (n : Counts) → Fits n → (w : Wait) → countOf n w ≤ mostLocks
+count-fits n h Nothing = omega arith
+count-fits n h Request = h .semaphores
+count-fits n h Reserve = h .bolts
+count-fits n h Enter = h .bolts
+
+-- The parts of the kernel test.
+pub record Parts (day : ℕ) (k : Kernel) : Type 0 where
+  pub now : leb (k .now .0) lastInstant ≡ true
+  pub clock : isTimeOfDay day (k .clock) ≡ true
+  pub counts : countsOk (k .counts) ≡ true
+  pub values : allBelow (k .counts .semaphores) (λ s. leb (valueAt (k .locks) s) mostValue) ≡ true
+  pub readers : allBelow (k .counts .bolts) (λ b. leb (boltAt (k .locks) b .readers) mostValue) ≡ true
+  pub tasks : allBelow (k .counts .tasks) (λ i. taskOk day (k .counts) (taskAt (k .tasks) i)) ≡ true
+  pub stuck : nobodyServable k ≡ true
+
+pub parts : (day : ℕ) (k : Kernel) → valid day k ≡ true → Parts day k
+unfolding valid
+parts day k e =
+    let n = k .counts in
+    let a = both _ (nobodyServable k) e in
+    let b = both _ (allBelow (n .tasks) (λ i. taskOk day n (taskAt (k .tasks) i))) (a .0) in
+    let c = both _ (allBelow (n .bolts) (λ b. leb (boltAt (k .locks) b .readers) mostValue)) (b .0) in
+    let d = both _ (allBelow (n .semaphores) (λ s. leb (valueAt (k .locks) s) mostValue)) (c .0) in
+    let f = both _ (countsOk n) (d .0) in
+    let g = both (leb (k .now .0) lastInstant) (isTimeOfDay day (k .clock)) (f .0) in
+    record {
+      now = g .0;
+      clock = g .1;
+      counts = f .1;
+      values = d .1;
+      readers = c .1;
+      tasks = b .1;
+      stuck = a .1;
+    }
+
 pub record Tested (k : Kernel) : Type 0 where
   pub fits : Fits (k .counts)
   pub listed : (i : ℕ) → i < k .counts .tasks → Listed (k .counts) (taskAt (k .tasks) i)
@@ -106,24 +156,10 @@ listed-task day n t e =
     listed-of n t (both (isPriority (t .declared) && isPriority (t .current) && keptOk (t .kept) && holdOk (t .hold) && restOk t) (waitOk n t) (a .0) .1)
 
 pub tested : (day : ℕ) (k : Kernel) → valid day k ≡ true → Tested k
-unfolding valid countsOk
 tested day k e =
     let n = k .counts in
-    let a = both _ (nobodyServable k) e in
-    let b = both _ (allBelow (n .tasks) (λ i. taskOk day n (taskAt (k .tasks) i))) (a .0) in
-    let c = both _ (allBelow (n .bolts) (λ b. leb (boltAt (k .locks) b .readers) mostValue)) (b .0) in
-    let d = both _ (allBelow (n .semaphores) (λ s. leb (valueAt (k .locks) s) mostValue)) (c .0) in
-    let f = both (leb (k .now .0) lastInstant && isTimeOfDay day (k .clock)) (countsOk n) (d .0) .1 in
-    let g = both _ (leb (n .interrupts) mostInterrupts) f in
-    let h = both _ (leb (n .bolts) mostBolts) (g .0) in
-    let i = both (leb (n .tasks) mostTasks) (leb (n .semaphores) mostSemaphores) (h .0) in
+    let p = parts day k e in
     record {
-      fits =
-          record {
-            tasks = leb-true _ _ (i .0);
-            semaphores = leb-true _ _ (i .1);
-            bolts = leb-true _ _ (h .1);
-            interrupts = leb-true _ _ (g .1);
-          };
-      listed = λ i l. listed-task day n (taskAt (k .tasks) i) (all-at (n .tasks) _ (b .1) i l);
+      fits = counts-fit n (p .counts);
+      listed = λ i l. listed-task day n (taskAt (k .tasks) i) (all-at (n .tasks) _ (p .tasks) i l);
     }

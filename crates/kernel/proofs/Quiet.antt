@@ -1,24 +1,22 @@
 -- While nothing comes, ticks only move the instant.
 use mathlib.Core.Path.{_≡_, refl, ap, ap₂, _∙_}
-use mathlib.Core.Bool.{Bool, true, false, _&&_}
+use mathlib.Core.Bool.{Bool, true, false}
 use mathlib.Core.List.{List, [], _∷_, _++_, map}
 use Prim.Native.Nat.{ℕ, zero, suc, _+_, _≤_, _<_}
 use native.Mathlib.Nat.{not-suc-le-zero}
 use native.Mathlib.Omega.{arith}
-use lib.Dec.{leb}
 use lib.ListN.{length, drop}
-use borrow.Author.Tests.{leb-true, le-leb, lt-ltb, not-true}
-use Rattle.calendar.specs.Limits.{lastInstant, isTimeOfDay}
+use borrow.Author.Tests.{le-leb, lt-ltb}
+use Rattle.calendar.specs.Limits.{lastInstant}
 use Rattle.calendar.specs.Times.{duration, plus}
 use Rattle.calendar.specs.declared.Instant.{Instant}
 use Rattle.layout.specs.Marks.{among}
 use Rattle.layout.specs.Fields.{callOf, headOf, listOf, bytesOf}
 use Rattle.record.specs.Lists.{allZero}
-use Rattle.record.specs.Refusals.{mostValue, uses, cleanNames, cleanStart, ranged, formed, listed, timed, shape, times}
+use Rattle.record.specs.Refusals.{uses, cleanNames, cleanStart, ranged, formed, listed, timed, shape, times}
 use Rattle.record.specs.Reading.{opened}
 use Rattle.layout.specs.declared.Call.{Call}
 use Rattle.layout.specs.declared.Mark.the-variants.{TI}
-use Rattle.lock.specs.Locks.{valueAt, boltAt}
 use Rattle.task.specs.Schedules.{falls}
 use Rattle.task.specs.Turns.{unmarked, delayEnds, wake, fallTurn, tickTurn}
 use Rattle.task.specs.declared.Task.{Task}
@@ -27,20 +25,22 @@ use Rattle.kernel.specs.declared.Counts.{Counts}
 use Rattle.kernel.specs.declared.Kernel.{Kernel}
 use Rattle.kernel.specs.declared.Stepped.{Stepped}
 use Rattle.kernel.specs.Sets.{setOf}
-use Rattle.kernel.specs.State.{mostTasks, mostSemaphores, mostBolts, mostInterrupts, taskAt, begunAt}
+use Rattle.kernel.specs.State.{mostTasks, taskAt, begunAt}
 use Rattle.kernel.specs.Running.{runner, urgency}
 use Rattle.kernel.specs.Granting.{servable}
 use Rattle.kernel.specs.Work.{turns, everyTurn}
 use Rattle.kernel.specs.Serving.{serve}
-use Rattle.kernel.specs.Test.{taskOk, allBelow, countsOk, nobodyServable, valid}
+use Rattle.kernel.specs.Test.{nobodyServable, valid}
 use Rattle.kernel.specs.Refusals.{declares, declaredIn, roomFor, formalRefusal, stateRefusalOf, refusalOf}
 use Rattle.kernel.specs.Calls.{tick}
 use Rattle.kernel.specs.Step.{plainAnswer, finish, orRefuse, carryOut, carryOn, step}
 use Rattle.kernel.specs.Log.{final, log}
 use Rattle.kernel.specs.Scripts.{row, oneTick}
 use Rattle.kernel.specs.Quiet.{comes, Quiet, later, TicksAreQuiet}
-use Rattle.lock.proofs.Bools.{both, neither}
-use Rattle.kernel.proofs.Below.{all-at, mostUrgent-none}
+use Rattle.lock.proofs.Bools.{neither}
+use Rattle.kernel.proofs.Below.{mostUrgent-none}
+use Rattle.kernel.proofs.Passed.{parts, tested}
+use Rattle.kernel.proofs.Facts.{nobody-untest}
 
 -- ---- turns that mark nothing and leave their tasks
 
@@ -71,30 +71,7 @@ quiet-turn n t e =
     let p = neither (falls n (t .schedule .alarm)) (delayEnds n (t .hold)) e in
     rw (p .1, p .0)
 
--- ---- what the kernel test tells
-
 module _ (day : ℕ) (k : Kernel) where
-  tested : valid day k ≡ true → (countsOk (k .counts) ≡ true) × (nobodyServable k ≡ true)
-  unfolding valid
-  tested v =
-      let g = both _ (nobodyServable k) v in
-      let f = both _ (allBelow (k .counts .tasks) (λ i. taskOk day (k .counts) (taskAt (k .tasks) i))) (g .0) in
-      let e = both _ (allBelow (k .counts .bolts) (λ b. leb (boltAt (k .locks) b .readers) mostValue)) (f .0) in
-      let d = both _ (allBelow (k .counts .semaphores) (λ s. leb (valueAt (k .locks) s) mostValue)) (e .0) in
-      (both (leb (k .now .0) lastInstant && isTimeOfDay day (k .clock)) (countsOk (k .counts)) (d .0) .1, g .1)
-
-  few-tasks : valid day k ≡ true → k .counts .tasks ≤ mostTasks
-  unfolding countsOk
-  few-tasks v =
-      let n = k .counts in
-      let a = both _ (leb (n .interrupts) mostInterrupts) (tested v .0) in
-      let b = both _ (leb (n .bolts) mostBolts) (a .0) in
-      leb-true _ _ (both (leb (n .tasks) mostTasks) (leb (n .semaphores) mostSemaphores) (b .0) .0)
-
-  nobody : valid day k ≡ true → (i : ℕ) → i < k .counts .tasks → servable (k .counts .tasks) (k .tasks) (k .locks) i ≡ false
-  unfolding nobodyServable
-  nobody v i l = not-true _ (all-at (k .counts .tasks) _ (tested v .1) i l)
-
   pub still-valid : (n : Instant) → k .now .0 ≤ lastInstant → n .0 ≤ lastInstant → valid day k ≡ true → valid day (begunAt n k) ≡ true
   unfolding valid nobodyServable
   still-valid n a b v = rw (le-leb (n .0) lastInstant b) (rw (le-leb (k .now .0) lastInstant a) at v)
@@ -116,7 +93,7 @@ module _ (day : ℕ) (k : Kernel) (room : length (k .tasks) ≡ mostTasks) (v : 
   nobody-served g (suc n) =
       rw (
         mostUrgent-none (k .counts .tasks) (servable (k .counts .tasks) (k .tasks) (k .locks)) (urgency (k .tasks))
-            (nobody day k v),
+            (nobody-untest k (parts day k v .stuck)),
         serve,
       )
 
@@ -127,7 +104,7 @@ module _ (day : ℕ) (k : Kernel) (room : length (k .tasks) ≡ mostTasks) (v : 
   tick-moves q =
       let n = k .counts .tasks in
       let f = tickTurn (plus (k .now) (duration 1)) in
-      let r : n ≤ length (k .tasks) = omega (arith, few-tasks day k v) in
+      let r : n ≤ length (k .tasks) = omega (arith, tested day k v .fits .tasks) in
       let e : (i : ℕ) → i < n → f (taskAt (k .tasks) i) ≡ unmarked (taskAt (k .tasks) i) =
       λ i l. quiet-turn (plus (k .now) (duration 1)) (taskAt (k .tasks) i) (q i l (k .now .0 + 1) (omega arith) (omega arith)) in
       rw (

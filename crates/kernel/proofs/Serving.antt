@@ -28,7 +28,7 @@ use Rattle.kernel.specs.Serving.{Served, nextServed, grantTo, serve}
 use Rattle.kernel.specs.Invariants.{ServingEnds}
 use Rattle.kernel.proofs.Below.{mostUrgent-idle, mostUrgent-at, sum-update, sum-at, sum-le}
 use Rattle.kernel.proofs.Facts.{TaskOk, Bounded, KernelOk, proper-list}
-use Rattle.kernel.proofs.Done.{could-free}
+use Rattle.kernel.proofs.Whole.{could-free}
 
 -- ---- one grant
 
@@ -82,7 +82,7 @@ pub waiters-le : (n : ℕ) (ts : List Task) → waiters n ts ≤ n
 unfolding waiters
 waiters-le n ts = sum-le n _ (λ i. bit-le (waiting (taskAt ts i .wait)))
 
-none-waits : (n : ℕ) (p : Served) → waiters n (p .tasks) ≤ 0 → (i : ℕ) → i < n → servable n (p .tasks) (p .locks) i ≡ false
+pub none-waits : (n : ℕ) (p : Served) → waiters n (p .tasks) ≤ 0 → (i : ℕ) → i < n → servable n (p .tasks) (p .locks) i ≡ false
 unfolding waiters
 none-waits n p h i l = idle-then (waiting (taskAt (p .tasks) i .wait)) (omega (arith, sum-at n (λ (i : ℕ). bit (waiting (taskAt (p .tasks) i .wait))) i l))
   where

@@ -1,13 +1,9 @@
 -- The scan for the most urgent finds the first that passes, and looks at no other numbers.
 use mathlib.Core.Path.{_≡_, refl}
-use mathlib.Core.Bool.{Bool, true, false}
+use mathlib.Core.Bool.{Bool}
 use mathlib.Core.List.{List}
 use Prim.Native.Nat.{ℕ, zero, suc, _≤_, _<_}
-use native.Mathlib.Nat.{not-suc-le-zero}
 use native.Mathlib.Omega.{arith}
-use lib.Dec.{ltb}
-use borrow.Author.Tests.{ltb-true, ltb-false}
-use Rattle.lock.proofs.Bools.{byBool, byEq, contra}
 use Rattle.task.specs.State.{runnable}
 use Rattle.task.specs.declared.Task.{Task}
 use Rattle.kernel.specs.declared.Kernel.{Kernel}

@@ -1,11 +1,10 @@
 -- The works of a call on two kernels that agree are alike in what is declared.
 use mathlib.Core.Path.{_≡_, refl, sym, ap, _∙_}
 use mathlib.Core.Bool.{Bool, true, false, cond}
-use mathlib.Core.List.{List, [], _∷_, _++_, map}
-use Prim.Native.Nat.{ℕ, zero, suc, _<_, _^_}
-use native.Mathlib.Nat.{not-suc-le-zero}
+use mathlib.Core.List.{List, [], _++_, map}
+use Prim.Native.Nat.{ℕ, _<_, _^_}
 use native.Mathlib.Omega.{arith}
-use lib.ListN.{length, getD, take, drop, length-map, List·getD-append}
+use lib.ListN.{length, take, drop, length-map, List·getD-append}
 use lib.Seq.{length-take-le, getD-take}
 use lib.Dec.{eqb}
 use Rattle.calendar.specs.declared.Instant.{Instant}
@@ -36,6 +35,7 @@ use Rattle.kernel.proofs.Urgency.{Below, runner-below}
 use Rattle.kernel.proofs.Passed.{Listed, Fits}
 use Rattle.kernel.proofs.Looks.{could-same, runner-same}
 use Rattle.kernel.proofs.Pairs.{Pair, listed-on, pair-set}
+use Rattle.kernel.proofs.Works.{map-at}
 
 pub record WorkPair (n : Counts) (w w′ : Work) : Type 0 where
   pub now : w .now ≡ w′ .now
@@ -46,11 +46,6 @@ pub record WorkPair (n : Counts) (w w′ : Work) : Type 0 where
   pub ended : w .ended ≡ w′ .ended
   pub lost : w .lost ≡ w′ .lost
   pub granted : w .granted ≡ w′ .granted
-
-map-at : {A B : Type 0} (f : A → B) (l : List A) (i : ℕ) (d : A) (e : B) → i < length l → getD (map f l) i e ≡ f (getD l i d)
-map-at f [] i d e h = absurd (not-suc-le-zero h)
-map-at f (x ∷ l) zero d e h = refl
-map-at f (x ∷ l) (suc i) d e h = map-at f l i d e (omega arith)
 
 pub no-wait-activate : (day clock : ℕ) (n : Instant) (h : Head) (t : Task) → NoNewWait t (activateTurn day clock n h t .task)
 unfolding activateTurn

@@ -18,7 +18,7 @@ use Rattle.kernel.specs.State.{taskAt}
 use Rattle.kernel.specs.Work.{turns, everyTurn}
 use Rattle.kernel.proofs.Sets.{has-setOf, setOf-lt}
 
-map-at : {A B : Type 0} (f : A → B) (l : List A) (i : ℕ) (d : A) (e : B) → i < length l → getD (map f l) i e ≡ f (getD l i d)
+pub map-at : {A B : Type 0} (f : A → B) (l : List A) (i : ℕ) (d : A) (e : B) → i < length l → getD (map f l) i e ≡ f (getD l i d)
 map-at f [] i d e h = absurd (not-suc-le-zero h)
 map-at f (x ∷ l) zero d e h = refl
 map-at f (x ∷ l) (suc i) d e h = map-at f l i d e (omega arith)

@@ -1,6 +1,5 @@
 -- What accepted declarations and calls do (document 01, "Records" and "The step").
-use mathlib.Core.Bool.{Bool, true, false, cond}
-use mathlib.Core.List.{List}
+use mathlib.Core.Bool.{Bool, false, cond}
 use Prim.Native.Nat.{ℕ, zero, suc, _+_, _^_}
 use lib.ListN.{set}
 use lib.Dec.{eqb}
@@ -24,11 +23,10 @@ use Rattle.task.specs.declared.Plan.the-variants.{Clock, Armed}
 use Rattle.task.specs.declared.Schedule.{Schedule}
 use Rattle.task.specs.declared.Task.{Task}
 use Rattle.task.specs.declared.Turn.{Turn}
-use Rattle.kernel.specs.declared.Counts.{Counts}
 use Rattle.kernel.specs.declared.Kernel.{Kernel}
 use Rattle.kernel.specs.declared.Running.{Running}
 use Rattle.kernel.specs.declared.Running.the-variants.{Idle, Runs}
-use Rattle.kernel.specs.State.{taskAt, enabledAt, freshTask, withState, withCounts, withClock}
+use Rattle.kernel.specs.State.{taskAt, enabledAt, freshTask, withState, withCounts}
 use Rattle.kernel.specs.Running.{runner}
 use Rattle.kernel.specs.Granting.{couldBeGranted}
 use Rattle.kernel.specs.Work.{Work, onlyLocks, noWork, turnOf, everyTurn}

@@ -1,6 +1,5 @@
 -- Refusals 2 to 15 of a call or declaration that was read, first ground first (document 01, "Refusals").
-use mathlib.Core.Bool.{Bool, true, false, not, _&&_, _||_}
-use mathlib.Core.List.{List}
+use mathlib.Core.Bool.{Bool, true, not, _&&_, _||_}
 use Prim.Native.Nat.{ℕ}
 use lib.Dec.{ltb, eqb}
 use Rattle.calendar.specs.Limits.{lastInstant}
@@ -11,7 +10,7 @@ use Rattle.layout.specs.declared.Mark.the-variants.{DT, DS, DB, IT, DC, AC, TE,
 use Rattle.layout.specs.declared.Call.{Call}
 use Rattle.lock.specs.Locks.{every, taken}
 use Rattle.lock.specs.declared.Wait.{Wait}
-use Rattle.lock.specs.declared.Wait.the-variants.{Nothing, Request, Reserve, Enter}
+use Rattle.lock.specs.declared.Wait.the-variants.{Request, Reserve, Enter}
 use Rattle.task.specs.State.{unheld, suspended}
 use Rattle.kernel.specs.declared.Counts.{Counts}
 use Rattle.kernel.specs.declared.Kernel.{Kernel}

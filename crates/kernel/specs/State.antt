@@ -2,7 +2,7 @@
 use mathlib.Core.Bool.{Bool, true, false}
 use mathlib.Core.List.{List, [], _∷_}
 use Prim.Native.Nat.{ℕ}
-use lib.ListN.{getD, set, replicate}
+use lib.ListN.{getD, replicate}
 use Rattle.calendar.specs.Times.{instant}
 use Rattle.calendar.specs.declared.Instant.{Instant}
 use Rattle.lock.specs.Locks.{mostLocks, emptyBolt}

@@ -1,11 +1,10 @@
 -- The machine: any kernel value and any bytes to the next kernel and the answer.
-use mathlib.Core.Bool.{Bool, true, false, cond}
+use mathlib.Core.Bool.{true, false, cond}
 use mathlib.Core.List.{List}
 use Prim.Native.Nat.{ℕ, zero, suc}
 use Rattle.record.specs.Reading.{callWith, opened}
 use Rattle.record.specs.declared.Read.{Read}
 use Rattle.record.specs.declared.Read.the-variants.{Refused, Accepted}
-use Rattle.record.specs.declared.Reading.{Reading}
 use Rattle.layout.specs.declared.Call.{Call}
 use Rattle.layout.specs.declared.Mark.{Mark}
 use Rattle.layout.specs.declared.Mark.the-variants.{DT, DS, DB, IT, DC, AC, TE, SU, PR, CO, EN, RE, RQ, RL, TR, RS, FR, ET, LV, TG, EI, XI, TI}
@@ -20,7 +19,7 @@ use Rattle.kernel.specs.declared.Stepped.{Stepped}
 use Rattle.kernel.specs.State.{withState, withClock, begunAt}
 use Rattle.kernel.specs.Running.{runningOf, runner}
 use Rattle.kernel.specs.Work.{Work, turnOf, turnOfRunner}
-use Rattle.kernel.specs.Serving.{Served, serve}
+use Rattle.kernel.specs.Serving.{serve}
 use Rattle.kernel.specs.Test.{valid}
 use Rattle.kernel.specs.Refusals.{refusalOf}
 use Rattle.kernel.specs.Calls.{addTask, addSemaphore, addBolt, addInterrupt, activateTurn, ask, giveBack, enable, trigger, tick}

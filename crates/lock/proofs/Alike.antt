@@ -1,16 +1,12 @@
 -- Locks that are alike at the declared numbers pass the same tests there, and stay alike under every change.
 use mathlib.Core.Path.{_≡_, refl, ap}
-use mathlib.Core.Bool.{Bool, true}
 use mathlib.Core.List.{List, [], _∷_}
 use Prim.Native.Nat.{ℕ, _≤_, _<_}
-use lib.Dec.{ltb}
-use borrow.Author.Tests.{ltb-true}
 use Rattle.lock.specs.declared.Wait.{Wait}
 use Rattle.lock.specs.declared.Wait.the-variants.{Nothing, Request, Reserve, Enter}
 use Rattle.lock.specs.declared.Bolt.{Bolt}
 use Rattle.lock.specs.declared.Locks.{Locks}
-use Rattle.lock.specs.Locks.{emptyBolt, valueAt, boltAt, free, taken, takeOne, giveOne, every, forEach, takeAll, giveAll}
-use Rattle.lock.proofs.Bools.{both}
+use Rattle.lock.specs.Locks.{emptyBolt, valueAt, boltAt, free, taken, takeOne, giveOne, forEach, takeAll, giveAll}
 use Rattle.lock.proofs.Changes.{onValue, onBolt, take-cases, give-cases}
 use Rattle.lock.proofs.Tables.{Like, like-set}
 
@@ -20,14 +16,6 @@ below s b Nothing = 0
 below s b Request = s
 below s b Reserve = b
 below s b Enter = b
-
--- Two tests that agree below m agree on a list of such numbers.
-pub every-below : (f g : ℕ → Bool) (m : ℕ) (l : List ℕ) → every (λ x. ltb x m) l ≡ true → ((x : ℕ) → x < m → f x ≡ g x) → every f l ≡ every g l
-unfolding every
-every-below f g m [] e h = refl
-every-below f g m (x ∷ l) e h =
-    let p = both (ltb x m) (every (λ x. ltb x m) l) e in
-    rw (h x (ltb-true x m (p .0)), every-below f g m l (p .1) h)
 
 -- What is looked at: the first s semaphores and the first b bolts.
 pub record Seen (s b : ℕ) (r r′ : Locks) : Type 0 where

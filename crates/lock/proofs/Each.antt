@@ -5,34 +5,20 @@ use mathlib.Core.Bool.{Bool, true, false, not}
 use mathlib.Core.List.{List, [], _∷_}
 use Prim.Native.Nat.{ℕ}
 use lib.Seq.{getD-set-other, set-comm}
-use borrow.Author.Tests.{eq-eqb, ne-eqb, not-true}
+use borrow.Author.Tests.{ne-eqb, not-true}
 use Rattle.record.specs.Lists.{names, distinct}
 use Rattle.lock.specs.declared.Bolt.{Bolt}
 use Rattle.lock.specs.declared.Locks.{Locks}
 use Rattle.lock.specs.Locks.{valueAt, boltAt, emptyBolt, takeOne, giveOne, every, forEach}
 use Rattle.lock.specs.Promises.{EveryIsEach, SameAt, Each, ListIsEach}
 use Rattle.lock.proofs.Bools.{byEq, contra, both, and-both}
+use Rattle.lock.proofs.Lists.{names-head, names-same, every-at}
 use Rattle.lock.proofs.Changes.{onValue, onBolt, take-cases, give-cases}
-
-pub names-head : (x y : ℕ) (l : List ℕ) → x ≢ y → names (x ∷ l) y ≡ names l y
-unfolding names
-names-head x y l h = rw (ne-eqb x y h)
-
-pub names-same : (x : ℕ) (l : List ℕ) → names (x ∷ l) x ≡ true
-unfolding names
-names-same x l = rw (eq-eqb x x refl)
 
 -- ---- tests
 
 names-tail : (x y : ℕ) (l : List ℕ) → names l y ≡ true → names (x ∷ l) y ≡ true
 names-tail x y l n = byEq x y (λ q. rw q (names-same y l)) (λ q. rw (names-head x y l q) n)
-
-pub every-at : (f : ℕ → Bool) (l : List ℕ) → every f l ≡ true → (x : ℕ) → names l x ≡ true → f x ≡ true
-unfolding every names
-every-at f [] e x n = contra n refl
-every-at f (y ∷ l) e x n =
-    let p = both (f y) (every f l) e in
-    byEq y x (λ q. rw (← q) (p .0)) (λ q. every-at f l (p .1) x (rw (ne-eqb y x q) at n))
 
 pub every-from : (f : ℕ → Bool) (l : List ℕ) → ((x : ℕ) → names l x ≡ true → f x ≡ true) → every f l ≡ true
 unfolding every
@@ -40,7 +26,7 @@ every-from f [] h = refl
 every-from f (y ∷ l) h = and-both (h y (names-same y l)) (every-from f l (λ x n. h x (names-tail y x l n)))
 
 pub every-is-each : EveryIsEach
-every-is-each f l = (every-at f l, every-from f l)
+every-is-each f l = (λ e x n. every-at f l x e n, every-from f l)
 
 -- ---- changes
 

@@ -12,7 +12,7 @@ use Rattle.record.specs.Reading.{callWith, refused, orRefused, judged, o
 use Rattle.record.proofs.OpenedLaws.{taken}
 use Rattle.record.proofs.ShapeLaws.{FieldsOf}
 
-before-some : (n r : ℕ) → (n ≡ 0 → ⊥) → n ≡ before n r
+pub before-some : (n r : ℕ) → (n ≡ 0 → ⊥) → n ≡ before n r
 before-some zero r ne = absurd (ne refl)
 before-some (suc n) r ne = refl
 

@@ -21,7 +21,7 @@ use Rattle.kernel.proofs.Marks.{carried-number}
 use Rattle.kernel.proofs.Refused.{untested-refused}
 use Rattle.kernel.proofs.Invariants.{step-on}
 use Rattle.lock.proofs.Bools.{byBool}
-use Rattle.script.specs.Printed.{readDeclares, silent, printed}
+use Rattle.script.specs.Printed.{readDeclares, silent}
 
 -- The code's test for a line.
 abbrev pub says : Stepped → Bool

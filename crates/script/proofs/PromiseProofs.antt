@@ -15,7 +15,7 @@ use Rattle.lines.specs.Lines.{line, longestLine}
 use Rattle.lines.proofs.LineLaws.{no-line-longer}
 use Rattle.lock.proofs.Bools.{byBool, contra}
 use Rattle.script.specs.Printed.{shown, silent, printed, lines}
-use Rattle.script.specs.Script.{Carried, afterText, carried}
+use Rattle.script.specs.Script.{Carried, afterText}
 use Rattle.script.specs.Promises.{Carries, ScriptsCarried}
 use Rattle.script.proofs.AnswerLaws.{answer-in-types}
 use Rattle.script.proofs.CarryLaws.{carried-none, carried-stop, carried-go}

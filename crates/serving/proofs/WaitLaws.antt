@@ -5,24 +5,22 @@ use mathlib.Core.List.{List}
 use Prim.Native.Nat.{ℕ, _≤_, _<_}
 use lib.Dec.{leb, ltb}
 use borrow.Author.Tests.{leb-true}
-use native.Mathlib.Omega.{arith}
 use Rattle.record.specs.Lists.{distinct}
 use Rattle.record.specs.Refusals.{mostNumbers}
 use Rattle.lock.specs.Locks.{mostLocks, waiting, every, grantable}
-use Rattle.lock.specs.declared.Wait.{Wait}
-use Rattle.lock.specs.declared.Wait.the-variants.{Nothing, Request, Reserve, Enter}
 use Rattle.lock.specs.declared.Locks.{Locks}
 use Rattle.lock.proofs.Bools.{byEq, both, and-both, or-then}
 use Rattle.lock.proofs.Lists.{every-more}
 use Rattle.task.specs.State.{wanted}
 use Rattle.task.specs.declared.Task.{Task}
-use Rattle.kernel.specs.State.{mostTasks, mostSemaphores, mostBolts, mostInterrupts, taskAt, countOf}
+use Rattle.kernel.specs.State.{mostTasks, taskAt, countOf}
 use Rattle.kernel.specs.Granting.{couldBeGranted, servable}
 use Rattle.kernel.specs.Serving.{grantTo}
 use Rattle.kernel.specs.Test.{between, allBelow, countsOk, waitOk}
 use Rattle.kernel.specs.declared.Counts.{Counts}
 use Rattle.kernel.specs.declared.Kernel.{Kernel}
 use Rattle.kernel.proofs.Below.{all-at, all-from}
+use Rattle.kernel.proofs.Passed.{counts-fit, count-fits}
 use Rattle.kernel.proofs.Serving.{grant-at, grant-other}
 use Rattle.survey.specs.Looks.{waitsOk}
 use Rattle.serving.specs.Ends.{served, withServed}
@@ -33,20 +31,6 @@ pub record Listed (t : Task) : Type 0 where
   pub once : distinct (wanted t) ≡ true
   pub below : every (λ x. ltb x mostLocks) (wanted t) ≡ true
 
-count-fits : (n : Counts) → countsOk n ≡ true → (n .tasks ≤ mostTasks) × ((w : Wait) → countOf n w ≤ mostLocks)
-unfolding countsOk
-count-fits n e =
-    let a = both _ (leb (n .interrupts) mostInterrupts) e in
-    let b = both _ (leb (n .bolts) mostBolts) (a .0) in
-    let c = both (leb (n .tasks) mostTasks) (leb (n .semaphores) mostSemaphores) (b .0) in
-    (leb-true _ _ (c .0), each (leb-true _ _ (c .1)) (leb-true _ _ (b .1)))
-  where
-    each : n .semaphores ≤ mostSemaphores → n .bolts ≤ mostBolts → (w : Wait) → countOf n w ≤ mostLocks
-    each s b Nothing = omega arith
-    each s b Request = s
-    each s b Reserve = b
-    each s b Enter = b
-
 list-fits : (n : Counts) → countsOk n ≡ true → (t : Task) → waitOk n t ≡ true → waiting (t .wait) ≡ true → Listed t
 list-fits n f t e w =
     let a = both (between 1 mostNumbers (t .len) && distinct (wanted t)) _ (or-then (waiting (t .wait)) _ e w) in
@@ -54,7 +38,7 @@ list-fits n f t e w =
     record {
       short = leb-true _ _ (both (leb 1 (t .len)) _ (b .0) .1);
       once = b .1;
-      below = every-more (countOf n (t .wait)) mostLocks (wanted t) (count-fits n f .1 (t .wait)) (a .1);
+      below = every-more (countOf n (t .wait)) mostLocks (wanted t) (count-fits n (counts-fit n f) (t .wait)) (a .1);
     }
 
 module _ (k : Kernel) (h : waitsOk k ≡ true) where
@@ -63,7 +47,7 @@ module _ (k : Kernel) (h : waitsOk k ≡ true) where
   unfold-waits = both _ _ h
 
   pub tasks-fit : k .counts .tasks ≤ mostTasks
-  tasks-fit = count-fits (k .counts) (unfold-waits .0) .0
+  tasks-fit = counts-fit (k .counts) (unfold-waits .0) .tasks
 
   pub listed : (i : ℕ) → i < k .counts .tasks → waiting (taskAt (k .tasks) i .wait) ≡ true → Listed (taskAt (k .tasks) i)
   listed i l = list-fits (k .counts) (unfold-waits .0) (taskAt (k .tasks) i) (all-at (k .counts .tasks) _ (unfold-waits .1) i l)

@@ -15,19 +15,17 @@ use Rattle.record.specs.Lists.{distinct}
 use Rattle.record.specs.Refusals.{mostNumbers}
 use Rattle.lock.specs.Locks.{mostLocks, waiting, every, grantable}
 use Rattle.lock.specs.declared.Locks.{Locks}
-use Rattle.lock.specs.declared.Wait.{Wait}
-use Rattle.lock.specs.declared.Wait.the-variants.{Nothing, Request, Reserve, Enter}
 use Rattle.lock.proofs.Bools.{byBool, contra, both, and-both}
 use Rattle.lock.proofs.Lists.{every-more}
 use Rattle.task.specs.State.{wanted}
 use Rattle.task.specs.declared.Task.{Task}
-use Rattle.kernel.specs.State.{mostTasks, mostSemaphores, mostBolts, mostInterrupts, taskAt, countOf}
+use Rattle.kernel.specs.State.{mostTasks, taskAt, countOf}
 use Rattle.kernel.specs.Granting.{couldBeGranted}
 use Rattle.kernel.specs.Test.{between, isPriority, keptOk, holdOk, restOk, waitOk, scheduleOk, taskOk, allBelow, countsOk, nobodyServable, valid}
 use Rattle.kernel.specs.declared.Counts.{Counts}
 use Rattle.kernel.specs.declared.Kernel.{Kernel}
 use Rattle.kernel.proofs.Below.{all-at}
-use Rattle.kernel.proofs.Passed.{Fits}
+use Rattle.kernel.proofs.Passed.{counts-fit, count-fits}
 use Rattle.survey.specs.Looks.{waitSettled}
 use Rattle.survey.proofs.Owned.{Owned, values-small, readers-small}
 use Rattle.survey.proofs.TaskFit.{fit}
@@ -89,27 +87,6 @@ all-both (suc n) f g = rw (← all-both n f g) (swap (allBelow n f) (f n) (allBe
     swap true false false d = refl
     swap true false true d = refl
     swap true true c d = refl
-
--- ---- the counts
-
-pub counts-fit : (n : Counts) → countsOk n ≡ true → Fits n
-unfolding countsOk
-counts-fit n e =
-    let a = both _ (leb (n .interrupts) mostInterrupts) e in
-    let b = both _ (leb (n .bolts) mostBolts) (a .0) in
-    let c = both (leb (n .tasks) mostTasks) (leb (n .semaphores) mostSemaphores) (b .0) in
-    record {
-      tasks = leb-true _ _ (c .0);
-      semaphores = leb-true _ _ (c .1);
-      bolts = leb-true _ _ (b .1);
-      interrupts = leb-true _ _ (a .1);
-    }
-
-count-fits : (n : Counts) → Fits n → (w : Wait) → countOf n w ≤ mostLocks
-count-fits n h Nothing = omega arith
-count-fits n h Request = h .semaphores
-count-fits n h Reserve = h .bolts
-count-fits n h Enter = h .bolts
 
 -- ---- one wait: w, d, e and g are what the tests of its parts said
 

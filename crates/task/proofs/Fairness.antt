@@ -1,10 +1,10 @@
 -- One task's turn is fair: its starts and ends balance, its losses are those of the rule, and a wait goes on or ends.
 use mathlib.Core.Path.{_≡_, refl, _∙_}
 use mathlib.Core.Bool.{Bool, true, false, not, _&&_, _||_}
-use Prim.Native.Nat.{ℕ, _+_}
+use Prim.Native.Nat.{ℕ}
 use native.Mathlib.Omega.{arith}
 use Rattle.calendar.specs.declared.Instant.{Instant}
-use Rattle.lock.specs.Locks.{bit, waiting}
+use Rattle.lock.specs.Locks.{waiting}
 use Rattle.lock.proofs.Bools.{tests, byBool, contra}
 use Rattle.task.specs.declared.Hold.{Hold}
 use Rattle.task.specs.declared.Hold.the-variants.{Unheld, Suspended, Delayed}

@@ -1,6 +1,6 @@
 -- Laws of the definitions: turns that change nothing, and a priority given.
 use mathlib.Core.Path.{_≡_, refl}
-use mathlib.Core.Bool.{true, false}
+use mathlib.Core.Bool.{false}
 use Prim.Native.Nat.{ℕ, zero, suc}
 use Rattle.calendar.specs.declared.Instant.{Instant}
 use Rattle.lock.proofs.Bools.{neither}

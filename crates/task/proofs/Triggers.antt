@@ -1,5 +1,5 @@
 -- What a trigger and a due leave of a schedule.
-use mathlib.Core.Path.{_≡_, refl}
+use mathlib.Core.Path.{refl}
 use Rattle.calendar.specs.Dues.{firstDue}
 use Rattle.task.specs.Schedules.{advance, launch}
 use Rattle.task.specs.Promises.{TriggerReplaces, AdvanceGoesOn}

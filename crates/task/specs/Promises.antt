@@ -5,7 +5,6 @@ use Prim.Native.Nat.{ℕ, _+_}
 use Rattle.calendar.specs.Times.{plus}
 use Rattle.calendar.specs.Dues.{lastAllowed, nextDue}
 use Rattle.calendar.specs.declared.Instant.{Instant}
-use Rattle.calendar.specs.declared.Moment.{Moment}
 use Rattle.calendar.specs.declared.Moment.the-variants.{Never, At}
 use Rattle.lock.specs.Locks.{bit, waiting}
 use Rattle.task.specs.declared.Plan.the-variants.{Armed, Triggered}

@@ -2,7 +2,6 @@
 use mathlib.Core.Bool.{Bool, true, false, cond, _&&_}
 use Prim.Native.Nat.{ℕ}
 use lib.Dec.{eqb}
-use Rattle.calendar.specs.Times.{duration}
 use Rattle.calendar.specs.Dues.{firstDue, lastAllowed, nextDue}
 use Rattle.calendar.specs.declared.Instant.{Instant}
 use Rattle.calendar.specs.declared.Start.{Start}

@@ -4,7 +4,6 @@ use mathlib.Core.List.{List, []}
 use Prim.Native.Nat.{ℕ}
 use lib.ListN.{take}
 use Rattle.calendar.specs.Times.{instant, duration}
-use Rattle.calendar.specs.declared.Instant.{Instant}
 use Rattle.calendar.specs.declared.End.the-variants.{Open}
 use Rattle.calendar.specs.declared.Moment.the-variants.{Never}
 use Rattle.lock.specs.declared.Wait.{Wait}

@@ -2,7 +2,8 @@
 use borrow.Author.Needs.{needs}
 use mathlib.Core.Path.{_≡_, sym, _∙_, ap}
 use mathlib.Core.Logic.{⊎-elim}
-use Prim.Native.Nat.{ℕ, _+_, _≤_, _<_, _-_}
+use mathlib.Core.Bool.{true}
+use Prim.Native.Nat.{_+_, _≤_, _<_, _-_}
 use native.Mathlib.Nat.{le-antisymm}
 use native.Mathlib.Omega.{arith}
 use lib.Dec.{leb}
@@ -20,6 +21,7 @@ use Rattle.task.proofs.Waits.{no-wait-tick}
 use Rattle.kernel.specs.State.{mostTasks, taskAt, withState}
 use Rattle.kernel.specs.Running.{runningOf}
 use Rattle.kernel.specs.Work.{everyTurn}
+use Rattle.kernel.specs.Test.{valid}
 use Rattle.kernel.specs.Refusals.{stateRefusalOf}
 use Rattle.kernel.specs.Calls.{tick}
 use Rattle.kernel.specs.Step.{finish, refuse, orRefuse}
@@ -51,23 +53,29 @@ abbrev μ-loop : tie.MeasureT-loop
 abbrev P : Type 0
 P = tie.After-plus Inv-loop μ-loop
 
+abbrev start : P → tie.Start Inv-loop μ-loop
+start p = p .before .before .before .before
+
 abbrev kernel : P → Kernel
-kernel p = p .before .before .before .before .args .t1
+kernel p = start p .args .t1
 
 abbrev moment : P → Instant
 moment p = p .plus .result
 
 good : (p : P) → Good (kernel p)
-good p = let s = p .before .before .before .before in (s .good .0 .0, s .good .0 .1 .1)
+good p = (start p .good .0 .0, start p .good .0 .1 .1)
+
+passes : (p : P) → valid day (kernel p) ≡ true
+passes p = start p .pre .0
 
 fits : (p : P) → kernel p .counts .tasks ≤ mostTasks
-fits p = tested day (kernel p) (p .before .before .before .before .pre .0) .fits .tasks
+fits p = tested day (kernel p) (passes p) .fits .tasks
 
 in-time : (p : P) → moment p .0 ≤ lastInstant
 in-time p = rw (p .plus .ensures) (omega (arith, p .before .if1 .left))
 
-runner-is : (p : P) {r : Running} → p .before .before .before .before .args .r ≡ r → runningOf (kernel p .counts .tasks) (kernel p .tasks) ≡ r
-runner-is p e = sym (p .before .before .before .before .pre .1) ∙ e
+runner-is : (p : P) {r : Running} → start p .args .r ≡ r → runningOf (kernel p .counts .tasks) (kernel p .tasks) ≡ r
+runner-is p e = sym (start p .pre .1) ∙ e
 
 -- Where a task runs.
 below : (c : tie.After-known-told Inv-loop μ-loop) → c .before .r .given .0 .0 < mostTasks
@@ -96,7 +104,7 @@ in-range c u e =
     let k = kernel p in
     let i = c .before .loop .i in
     let t = taskAt (k .tasks) i in
-    let h = task-untest day (k .counts) t (all-at (k .counts .tasks) _ (sound day k (p .before .before .before .before .pre .0) .tasks) i (c .loop-test .taken)) in
+    let h = task-untest day (k .counts) t (all-at (k .counts .tasks) _ (sound day k (passes p) .tasks) i (c .loop-test .taken)) in
     let q = good-tick day (k .counts) (moment p) t (in-time p) h .ok .current-ok in
     let x = tickTurn (moment p) t .task .current in
     rw (e, task-now (tickTurn (moment p)) k i (less c) (c .before .loop .inv .1)) (omega (arith, leb-true x 255 (both (leb 1 x) (leb x 255) q .1)))
@@ -258,7 +266,7 @@ returns-2 c =
     let n = moment p in
     let w = all a in
     let r = c .before .task-of .ensures ∙ led-runs (a .before .loop .inv .2) (fits p) ∙ ap (λ (q : Kernel). runningOf (k .counts .tasks) (q .tasks)) (w .0) in
-    let idle = every-idle day k (p .before .before .before .before .pre .0) (tasks-long k (good p)) n (tickTurn n) (λ t. no-wait-tick t n) in
+    let idle = every-idle day k (passes p) (tasks-long k (good p)) n (tickTurn n) (λ t. no-wait-tick t n) in
     λ d. rw (c .answer-of .ensures) (every-unserved k n (tickTurn n) (ap (withNow n) (w .0)) (w .1) idle r) ∙ accepted p d
 
 pub ticked-spec : {M : Type 1} → statement M

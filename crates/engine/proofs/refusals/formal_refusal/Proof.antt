@@ -3,7 +3,8 @@ use borrow.Author.Needs.{needs}
 use borrow.Author.Tests.{not-true, not-false}
 use mathlib.Core.Path.{sym, _∙_}
 use Rattle.kernel.specs.Refusals.{formalRefusal}
-use Rattle.engine.proofs.RefusalLaws.{before-first, shaped-short}
+use Rattle.record.proofs.ReaderLaws.{before-some}
+use Rattle.engine.proofs.RefusalLaws.{shaped-short}
 use Rattle.engine.proofs.refusals.formal_refusal.Statement.{statement}
 use Rattle.engine.proofs.refusals.formal_refusal.Tie as tie
 
@@ -16,7 +17,7 @@ returns c = rw (← c .before .is-declaration .ensures, c .if1 .taken)
 
 returns-2 : tie.Need-returns-2
 unfolding formalRefusal
-returns-2 c = rw (← c .before .before .is-declaration .ensures, c .before .if1 .left, ← c .before .before .before .pre) (before-first _ _ (c .if2 .taken))
+returns-2 c = rw (← c .before .before .is-declaration .ensures, c .before .if1 .left, ← c .before .before .before .pre) (before-some _ _ (c .if2 .taken))
 
 is-declared-requires : tie.Need-is-declared-requires
 is-declared-requires c κs = shaped-short _ (sym (c .before .before .before .pre) ∙ c .if2 .left)
@@ -53,7 +54,7 @@ returns-4 c =
       not-false (d .is-declared .result) (t .before .if3 .left),
       ← t .times-of .ensures,
     )
-    (before-first _ _ (c .if4 .taken))
+    (before-some _ _ (c .if4 .taken))
 
 has-room-requires : tie.Need-has-room-requires
 has-room-requires c κs = search needs

@@ -3,8 +3,7 @@ use borrow.Author.Needs.{needs}
 use mathlib.Core.Bool.{true}
 use Rattle.record.specs.Refusals.{formed, uses, ranged}
 use Rattle.record.proofs.ShapeLaws.{alone, with-number, with-both, with-priority, with-first, with-start, with-list}
-use mathlib.Core.Path.{refl}
-use Rattle.record.specs.Refusals.{start, formed, uses, ranged}
+use Rattle.record.specs.Refusals.{formed, uses, ranged}
 use Rattle.record.proofs.shape.is_formed.Statement.{statement}
 use Rattle.record.proofs.shape.is_formed.Tie as tie
 

@@ -5,7 +5,6 @@ use Prim.Native.Nat.{_-_, _≤_}
 use native.Mathlib.Omega.{arith}
 use lib.ListN.{length, drop, length-drop}
 use lib.Seq.{take-all}
-use borrow.Rule.Slice.PartAt.{part-to-end}
 use Rattle.record.proofs.shape.is_list_formed.Statement.{statement}
 use Rattle.record.proofs.shape.is_list_formed.Tie as tie
 
