@@ -1,0 +1,12 @@
+-- The engine's fresh kernel.
+use Rattle.rack.proofs.Rack.fresh.Statement.{statement}
+use Rattle.rack.proofs.Rack.fresh.Tie as tie
+
+fresh-requires : tie.Need-fresh-requires
+fresh-requires c κs = tt
+
+returns : tie.Need-returns
+returns c = c .fresh .ensures
+
+pub fresh-spec : {M : Type 1} → statement M
+fresh-spec = tie.close (tie.spec fresh-requires returns)
