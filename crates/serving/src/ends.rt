@@ -1,4 +1,4 @@
-// Serving, and what ends every accepted call.
+// Serving, and what ends every accepted call but a tick.
 ghost use mathlib.Core.Path.{_≡_};
 ghost use mathlib.Core.Bool.{true};
 ghost use Prim.Native.Nat.{_<_};
@@ -146,8 +146,8 @@ fn finished_serving(k: Kernel, m: Marks) -> Stepped
     }
 }
 
-// Every accepted call ends so. The kernel has had its work done, and the marks say what was done. Where nobody waits
-// or none that waits could be granted, there is nobody to serve.
+// Every accepted call but a tick ends so. The kernel has had its work done, and the marks say what was done. Where
+// nobody waits or none that waits could be granted, there is nobody to serve.
 pub fn finished(mut k: Kernel, m: Marks) -> Stepped
     requires { ⌜ waitsOk k ≡ true ⌝ }
     ensures { λ r. ⌜ r ≡ finish k (workHere k m) ⌝ }
