@@ -15,15 +15,15 @@ use Rattle.lock.proofs.Taking.{writer-le}
 use Rattle.lock.proofs.Exclusion.{Exclusive, exclusive-levels}
 use Rattle.task.specs.State.{isKept}
 use Rattle.task.specs.declared.Task.{Task}
-use Rattle.kernel.specs.declared.Kernel.{Kernel}
-use Rattle.kernel.specs.declared.Running.the-variants.{Idle}
-use Rattle.kernel.specs.State.{taskAt, freshTask}
-use Rattle.kernel.specs.Running.{runningOf, runner}
-use Rattle.kernel.specs.Step.{step}
-use Rattle.kernel.specs.Log.{final, log}
-use Rattle.kernel.specs.Invariants.{IsDay}
-use Rattle.kernel.proofs.Below.{mostUrgent-none}
-use Rattle.kernel.proofs.Facts.{KernelOk, passes-of-ok, ok-of-passes}
+use Rattle.machine.specs.declared.State.{State}
+use Rattle.machine.specs.declared.Running.the-variants.{Idle}
+use Rattle.machine.specs.State.{taskAt, freshTask}
+use Rattle.machine.specs.Running.{runningOf, runner}
+use Rattle.machine.specs.Step.{step}
+use Rattle.machine.specs.Log.{final, log}
+use Rattle.machine.specs.Invariants.{IsDay}
+use Rattle.machine.proofs.Below.{mostUrgent-none}
+use Rattle.machine.proofs.Facts.{StateOk, passes-of-ok, ok-of-passes}
 use Rattle.balance.specs.Counting.{count, accepted, namesOf, noNames, returned, Asking, askedAfter, grants, Open, noneOpen, asksNow, openAt, openAfter, GrantsOpen, openFrom}
 use Rattle.balance.specs.Fresh.{AllOctets, declaration, acceptedDeclaration, without}
 use Rattle.balance.specs.Balance.{RightStep, AtEachRecord, Balance}
@@ -31,8 +31,8 @@ use Rattle.balance.proofs.Steps.{Invariant, StepBooks, step-books}
 
 -- ---- any kernel on the way
 
-record Booked (day : ℕ) (k : Kernel) (last : Asking) (was : Open) (rs : List (List ℕ)) : Type 0 where
-  ok : KernelOk day (final day k rs)
+record Booked (day : ℕ) (k : State) (last : Asking) (was : Open) (rs : List (List ℕ)) : Type 0 where
+  ok : StateOk day (final day k rs)
   exclusive : Exclusive (final day k rs .counts .bolts) (final day k rs .locks)
   counts-same : final day k rs .counts ≡ k .counts
   dues : (i : ℕ) → i < k .counts .tasks → bit (isKept (taskAt (k .tasks) i .kept)) + count (λ a. a .due) i (log day k rs) ≡ count (λ a. a .started) i (log day k rs) + count (λ a. a .lost) i (log day k rs) + bit (isKept (taskAt (final day k rs .tasks) i .kept))
@@ -42,7 +42,7 @@ record Booked (day : ℕ) (k : Kernel) (last : Asking) (was : Open) (rs : List (
   waits : (i : ℕ) → i < k .counts .tasks → openFrom (runner k) was (log day k rs) i ≡ waiting (taskAt (final day k rs .tasks) i .wait)
   each : AtEachRecord day k rs
 
-right : (day : ℕ) (k : Kernel) (last : Asking) (was : Open) (r : List ℕ) → KernelOk day k → StepBooks day k last was (opened r .answer) (opened r .list) (step day k r) → RightStep day k r (step day k r .answer) (step day k r .kernel)
+right : (day : ℕ) (k : State) (last : Asking) (was : Open) (r : List ℕ) → StateOk day k → StepBooks day k last was (opened r .answer) (opened r .list) (step day k r) → RightStep day k r (step day k r .answer) (step day k r .state)
 right day k last was r h d =
     record {
       tested = passes-of-ok day k h .tested;
@@ -57,7 +57,7 @@ right day k last was r h d =
     }
 
 module _ (day : ℕ) (isDay : IsDay day) where
-  booked : (rs : List (List ℕ)) (k : Kernel) (last : Asking) (was : Open) → Invariant day k last was → AllOctets rs → without acceptedDeclaration (log day k rs) ≡ true → Booked day k last was rs
+  booked : (rs : List (List ℕ)) (k : State) (last : Asking) (was : Open) → Invariant day k last was → AllOctets rs → without acceptedDeclaration (log day k rs) ≡ true → Booked day k last was rs
   unfolding AllOctets without final log count returned grants GrantsOpen openFrom askedAfter namesOf asksNow openAt openAfter AtEachRecord
   booked [] k last was h o q =
       record {
@@ -72,7 +72,7 @@ module _ (day : ℕ) (isDay : IsDay day) where
         each = tt;
       }
   booked (r ∷ rs) k last was h o q =
-      let z = step day k r .kernel in
+      let z = step day k r .state in
       let p = both (not (accepted (step day k r .answer) && declaration (opened r .answer))) (without acceptedDeclaration (log day z rs)) q in
       let d = step-books day isDay k last was h r (o .0) (p .0) in
       let ih = booked rs z _ _ (d .next) (o .1) (p .1) in
@@ -129,8 +129,8 @@ balance day isDay k f rs o q =
       last-tested = passes-of-ok day (final day k rs) (b .ok) .tested;
     }
   where
-    nobody-runs : (k : Kernel) → ((i : ℕ) → i < k .counts .tasks → taskAt (k .tasks) i .alive ≡ false) → runner k ≡ Idle
+    nobody-runs : (k : State) → ((i : ℕ) → i < k .counts .tasks → taskAt (k .tasks) i .alive ≡ false) → runner k ≡ Idle
     nobody-runs k g = unfold runningOf in mostUrgent-none (k .counts .tasks) _ _ (λ i l. rw (g i l))
 
-    empty-levels : (k : Kernel) (b : ℕ) → boltAt (k .locks) b ≡ record { writer = false; readers = 0 } → (level Reserve (k .locks) b ≡ 0) × (level Enter (k .locks) b ≡ 0)
+    empty-levels : (k : State) (b : ℕ) → boltAt (k .locks) b ≡ record { writer = false; readers = 0 } → (level Reserve (k .locks) b ≡ 0) × (level Enter (k .locks) b ≡ 0)
     empty-levels k b e = unfold level in (ap (λ (x : Bolt). bit (x .writer)) e, ap (λ (x : Bolt). x .readers) e)

@@ -20,20 +20,20 @@ use Rattle.task.specs.State.{waitFor}
 use Rattle.task.specs.Turns.{unmarked}
 use Rattle.task.specs.declared.Task.{Task}
 use Rattle.task.specs.declared.Turn.{Turn}
-use Rattle.kernel.specs.declared.Kernel.{Kernel}
-use Rattle.kernel.specs.declared.Running.the-variants.{Runs}
-use Rattle.kernel.specs.Sets.{has}
-use Rattle.kernel.specs.State.{taskAt, countOf}
-use Rattle.kernel.specs.Running.{runner}
-use Rattle.kernel.specs.Work.{Work, onlyLocks, noWork, oneTurn}
-use Rattle.kernel.proofs.Sets.{has-empty, has-one, has-other, pow-pos, pow-lt}
-use Rattle.kernel.proofs.Facts.{KernelOk, proper-list}
-use Rattle.kernel.proofs.Done.{Role, asking, giving, Lists, Did, turned, everyone, quiet, gave, got, waits, tried, runs}
+use Rattle.machine.specs.declared.State.{State}
+use Rattle.machine.specs.declared.Running.the-variants.{Runs}
+use Rattle.machine.specs.Sets.{has}
+use Rattle.machine.specs.State.{taskAt, countOf}
+use Rattle.machine.specs.Running.{runner}
+use Rattle.machine.specs.Work.{Work, onlyLocks, noWork, oneTurn}
+use Rattle.machine.proofs.Sets.{has-empty, has-one, has-other, pow-pos, pow-lt}
+use Rattle.machine.proofs.Facts.{StateOk, proper-list}
+use Rattle.machine.proofs.Done.{Role, asking, giving, Lists, Did, turned, everyone, quiet, gave, got, waits, tried, runs}
 use Rattle.balance.specs.Counting.{Named, Asking, counts, issuedBy, grantsIn}
 use Rattle.balance.proofs.Grants.{no-grants, one-grant, no-kind}
 use Rattle.balance.proofs.Works.{Marked, still-marked, only-granted, Ties, asksIf, lastIf, WorkBooks, unmoved, none-granted, at-turn, at-other, one-marked, one-declared, turned-books, every-books}
 
-module _ (day : ℕ) (k : Kernel) (h : KernelOk day k) (c : Call) (last : Asking) where
+module _ (day : ℕ) (k : State) (h : StateOk day k) (c : Call) (last : Asking) where
   abbrev n : ℕ
   n = k .counts .tasks
 

@@ -16,23 +16,23 @@ use Rattle.lock.specs.Locks.{emptyBolt, boltAt}
 use Rattle.lock.proofs.Bools.{byBool, byEq, contra, both}
 use Rattle.lock.proofs.Levels.{bolt-same, bolt-other}
 use Rattle.task.specs.State.{noTask}
-use Rattle.kernel.specs.declared.Kernel.{Kernel}
-use Rattle.kernel.specs.State.{taskAt, enabledAt, freshTask, nothing, withClock}
-use Rattle.kernel.specs.Refusals.{declares, refusalOf}
-use Rattle.kernel.specs.Calls.{addTask, addSemaphore, addBolt, addInterrupt}
-use Rattle.kernel.specs.Step.{refuse, declared, orRefuse, carryOut, carryOn, stepRead, step}
-use Rattle.kernel.specs.Log.{final, log}
-use Rattle.kernel.specs.Invariants.{IsDay}
-use Rattle.kernel.proofs.Facts.{KernelOk, bounded-of, passes-of-ok}
-use Rattle.kernel.proofs.Accepting.{Passed, all-passed}
-use Rattle.kernel.proofs.Marks.{carried-number, by-declaration}
-use Rattle.kernel.proofs.Declaring.{room-DT, room-DB, room-IT}
-use Rattle.kernel.proofs.Invariants.{step-on, step-ok}
+use Rattle.machine.specs.declared.State.{State}
+use Rattle.machine.specs.State.{taskAt, enabledAt, freshTask, nothing, withClock}
+use Rattle.machine.specs.Refusals.{declares, refusalOf}
+use Rattle.machine.specs.Calls.{addTask, addSemaphore, addBolt, addInterrupt}
+use Rattle.machine.specs.Step.{refuse, declared, orRefuse, carryOut, carryOn, stepRead, step}
+use Rattle.machine.specs.Log.{final, log}
+use Rattle.machine.specs.Invariants.{IsDay}
+use Rattle.machine.proofs.Facts.{StateOk, bounded-of, passes-of-ok}
+use Rattle.machine.proofs.Accepting.{Passed, all-passed}
+use Rattle.machine.proofs.Marks.{carried-number, by-declaration}
+use Rattle.machine.proofs.Declaring.{room-DT, room-DB, room-IT}
+use Rattle.machine.proofs.Invariants.{step-on, step-ok}
 use Rattle.balance.specs.Counting.{accepted}
 use Rattle.balance.specs.Fresh.{AllOctets, declaration, acceptedCall, without, DeclaredIsFresh}
 
 -- A kernel whose declared places are as their declarations left them.
-record Young (k : Kernel) : Type 0 where
+record Young (k : State) : Type 0 where
   instant : k .now .0 ≡ 0
   unbegun : k .begun ≡ false
   tasks : (i : ℕ) → i < k .counts .tasks → taskAt (k .tasks) i ≡ freshTask (taskAt (k .tasks) i .declared)
@@ -43,7 +43,7 @@ declared-is : (p : ℕ) → freshTask p ≡ freshTask (freshTask p .declared)
 unfolding freshTask
 declared-is p = refl
 
-module _ (day : ℕ) (k : Kernel) (h : KernelOk day k) (y : Young k) (c : Call) where
+module _ (day : ℕ) (k : State) (h : StateOk day k) (y : Young k) (c : Call) where
   young-DT : Passed day DT k c → Young (addTask (c .head .priority) k)
   unfolding addTask
   young-DT p =
@@ -94,42 +94,42 @@ module _ (day : ℕ) (k : Kernel) (h : KernelOk day k) (y : Young k) (c : Call) 
   young-DC : Young (withClock (c .head .first) k)
   young-DC = record { instant = y .instant; unbegun = y .unbegun; tasks = y .tasks; bolts = y .bolts; enabled = y .enabled }
 
-  young-declared : (m : Mark) → declares m ≡ true → Passed day m k c → Young (carryOut day m k c .kernel)
+  young-declared : (m : Mark) → declares m ≡ true → Passed day m k c → Young (carryOut day m k c .state)
   unfolding carryOut declared
   young-declared =
-      by-declaration (λ m. Passed day m k c → Young (carryOut day m k c .kernel)) young-DT (λ p. young-DS) young-DB young-IT (λ p. young-DC)
+      by-declaration (λ m. Passed day m k c → Young (carryOut day m k c .state)) young-DT (λ p. young-DS) young-DB young-IT (λ p. young-DC)
 
-  young-carried : not (accepted (carryOn day k c .answer) && not (declares (c .head .mark))) ≡ true → Young (carryOn day k c .kernel)
+  young-carried : not (accepted (carryOn day k c .answer) && not (declares (c .head .mark))) ≡ true → Young (carryOn day k c .state)
   unfolding carryOn
   young-carried q = go (refusalOf day k c) refl q
     where
-      go : (n : ℕ) → refusalOf day k c ≡ n → not (accepted (orRefuse k n (carryOut day (c .head .mark) k c) .answer) && not (declares (c .head .mark))) ≡ true → Young (orRefuse k n (carryOut day (c .head .mark) k c) .kernel)
+      go : (n : ℕ) → refusalOf day k c ≡ n → not (accepted (orRefuse k n (carryOut day (c .head .mark) k c) .answer) && not (declares (c .head .mark))) ≡ true → Young (orRefuse k n (carryOut day (c .head .mark) k c) .state)
       go zero e z =
           byBool (declares (c .head .mark)) (λ d. young-declared (c .head .mark) d (all-passed day k c e))
           (λ d. contra z (rw (carried-number day k c (c .head .mark), d)))
       go (suc n) e z = unfold refuse in y
 
 module _ (day : ℕ) (isDay : IsDay day) where
-  young-step : (k : Kernel) → KernelOk day k → Young k → (s : List ℕ) → not (accepted (step day k s .answer) && not (declaration (opened s .answer))) ≡ true → Young (step day k s .kernel)
+  young-step : (k : State) → StateOk day k → Young k → (s : List ℕ) → not (accepted (step day k s .answer) && not (declaration (opened s .answer))) ≡ true → Young (step day k s .state)
   young-step k h y s q = rw on (go (opened s .answer) (rw on at q))
     where
       on : step day k s ≡ stepRead day k (opened s .answer) (opened s .list)
       on = step-on day k s (passes-of-ok day k h .tested)
 
-      go : (r : Read) → not (accepted (stepRead day k r (opened s .list) .answer) && not (declaration r)) ≡ true → Young (stepRead day k r (opened s .list) .kernel)
+      go : (r : Read) → not (accepted (stepRead day k r (opened s .list) .answer) && not (declaration r)) ≡ true → Young (stepRead day k r (opened s .list) .state)
       go (Refused n) z = unfold refuse in y
       go (Accepted d) z = young-carried day k h y (callWith d (opened s .list)) z
 
-  young-all : (rs : List (List ℕ)) (k : Kernel) → KernelOk day k → Young k → AllOctets rs → without acceptedCall (log day k rs) ≡ true → KernelOk day (final day k rs) × Young (final day k rs)
+  young-all : (rs : List (List ℕ)) (k : State) → StateOk day k → Young k → AllOctets rs → without acceptedCall (log day k rs) ≡ true → StateOk day (final day k rs) × Young (final day k rs)
   unfolding AllOctets without log final
   young-all [] k h y o q = (h, y)
   young-all (r ∷ rs) k h y o q =
       let p = both (not (accepted (step day k r .answer) && not (declaration (opened r .answer)))) _ q in
-      young-all rs (step day k r .kernel) (step-ok day isDay k h r (o .0)) (young-step k h y r (p .0)) (o .1) (p .1)
+      young-all rs (step day k r .state) (step-ok day isDay k h r (o .0)) (young-step k h y r (p .0)) (o .1) (p .1)
 
   -- ---- nothing declared
 
-  nothing-ok : KernelOk day nothing
+  nothing-ok : StateOk day nothing
   unfolding nothing
   nothing-ok =
       record {

@@ -6,9 +6,9 @@ use native.Mathlib.Omega.{arith}
 use Rattle.lock.specs.declared.Wait.{Wait}
 use Rattle.lock.specs.declared.Wait.the-variants.{Nothing, Request, Reserve, Enter}
 use Rattle.lock.proofs.Levels.{Law}
-use Rattle.kernel.specs.Sets.{has, put}
-use Rattle.kernel.proofs.Sets.{has-empty, has-one, has-other, has-put, has-put-other}
-use Rattle.kernel.proofs.Below.{sum-zero, sum-update}
+use Rattle.machine.specs.Sets.{has, put}
+use Rattle.machine.proofs.Sets.{has-empty, has-one, has-other, has-put, has-put-other}
+use Rattle.machine.proofs.Below.{sum-zero, sum-update}
 use Rattle.balance.specs.Counting.{Asking, counts, grantsIn}
 
 -- A level that moved by grants alone, with the grants counted before and after.

@@ -13,20 +13,20 @@ use Rattle.lock.proofs.Taking.{take-law}
 use Rattle.lock.proofs.Exclusion.{Exclusive, take-exclusive}
 use Rattle.task.specs.State.{wanted}
 use Rattle.task.specs.declared.Task.{Task}
-use Rattle.kernel.specs.declared.Kernel.{Kernel}
-use Rattle.kernel.specs.Sets.{has}
-use Rattle.kernel.specs.State.{taskAt}
-use Rattle.kernel.specs.Granting.{servable}
-use Rattle.kernel.specs.Serving.{Served, grantTo, serve}
-use Rattle.kernel.proofs.Sets.{has-le, has-put, has-put-other, put-lt}
-use Rattle.kernel.proofs.Facts.{KernelOk}
-use Rattle.kernel.proofs.Serving.{ServedOk, served-waits, served-free, grant-at, grant-other, wanted-proper, grant-ok, serve-keeps}
+use Rattle.machine.specs.declared.State.{State}
+use Rattle.machine.specs.Sets.{has}
+use Rattle.machine.specs.State.{taskAt}
+use Rattle.machine.specs.Granting.{servable}
+use Rattle.machine.specs.Serving.{Served, grantTo, serve}
+use Rattle.machine.proofs.Sets.{has-le, has-put, has-put-other, put-lt}
+use Rattle.machine.proofs.Facts.{StateOk}
+use Rattle.machine.proofs.Serving.{ServedOk, served-waits, served-free, grant-at, grant-other, wanted-proper, grant-ok, serve-keeps}
 use Rattle.balance.specs.Counting.{Asking, counts, grantsIn, Open, isIn}
 use Rattle.balance.proofs.Grants.{Moved, moved-more, put-grant}
 use Rattle.balance.proofs.Works.{Ties}
 
 -- before: who waits where serving begins, but for grants made already; asking: whose asking is open then.
-pub record ServedBooks (day : ℕ) (k : Kernel) (last : Asking) (before asking : Open) (p q : Served) : Type 0 where
+pub record ServedBooks (day : ℕ) (k : State) (last : Asking) (before asking : Open) (p q : Served) : Type 0 where
   pub ok : ServedOk day k q
   pub kept-same : (i : ℕ) → taskAt (q .tasks) i .kept ≡ taskAt (p .tasks) i .kept
   pub alive-same : (i : ℕ) → taskAt (q .tasks) i .alive ≡ taskAt (p .tasks) i .alive
@@ -44,7 +44,7 @@ none-left : (b : Bool) → false ≡ (b && not true)
 none-left true = refl
 none-left false = refl
 
-module _ (day : ℕ) (k : Kernel) (h : KernelOk day k) (last : Asking) (before asking : Open) (sub : (i : ℕ) → before i ≡ true → asking i ≡ true) (p : Served) where
+module _ (day : ℕ) (k : State) (h : StateOk day k) (last : Asking) (before asking : Open) (sub : (i : ℕ) → before i ≡ true → asking i ≡ true) (p : Served) where
   abbrev n : ℕ
   n = k .counts .tasks
 

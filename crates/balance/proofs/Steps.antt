@@ -18,24 +18,24 @@ use Rattle.lock.specs.declared.Wait.{Wait}
 use Rattle.lock.proofs.Bools.{tests, byBool, contra, or-right}
 use Rattle.lock.proofs.Levels.{Law, law-refl}
 use Rattle.lock.proofs.Exclusion.{Exclusive}
-use Rattle.kernel.specs.declared.Kernel.{Kernel}
-use Rattle.kernel.specs.declared.Answer.{Answer}
-use Rattle.kernel.specs.declared.Running.{Running}
-use Rattle.kernel.specs.declared.Stepped.{Stepped}
-use Rattle.kernel.specs.Sets.{has}
-use Rattle.kernel.specs.State.{taskAt}
-use Rattle.kernel.specs.Running.{runner}
-use Rattle.kernel.specs.Work.{Work}
-use Rattle.kernel.specs.Refusals.{declares, refusalOf}
-use Rattle.kernel.specs.Step.{refuse, finish, declared, orRefuse, carryOut, carryOn, stepRead, step}
-use Rattle.kernel.specs.Invariants.{IsDay}
-use Rattle.kernel.proofs.Sets.{has-empty, pow-pos}
-use Rattle.kernel.proofs.Facts.{KernelOk, passes-of-ok}
-use Rattle.kernel.proofs.Marks.{carried-number}
-use Rattle.kernel.proofs.Accepting.{all-passed, refusal-not-1, opened-refused, opened-priority}
-use Rattle.kernel.proofs.Done.{Did, role, call-carried}
-use Rattle.kernel.proofs.Keeping.{begin, begin-ok, did-ok, finish-ok}
-use Rattle.kernel.proofs.Invariants.{step-on}
+use Rattle.machine.specs.declared.State.{State}
+use Rattle.machine.specs.declared.Answer.{Answer}
+use Rattle.machine.specs.declared.Running.{Running}
+use Rattle.machine.specs.declared.Stepped.{Stepped}
+use Rattle.machine.specs.Sets.{has}
+use Rattle.machine.specs.State.{taskAt}
+use Rattle.machine.specs.Running.{runner}
+use Rattle.machine.specs.Work.{Work}
+use Rattle.machine.specs.Refusals.{declares, refusalOf}
+use Rattle.machine.specs.Step.{refuse, finish, declared, orRefuse, carryOut, carryOn, stepRead, step}
+use Rattle.machine.specs.Invariants.{IsDay}
+use Rattle.machine.proofs.Sets.{has-empty, pow-pos}
+use Rattle.machine.proofs.Facts.{StateOk, passes-of-ok}
+use Rattle.machine.proofs.Marks.{carried-number}
+use Rattle.machine.proofs.Accepting.{all-passed, refusal-not-1, opened-refused, opened-priority}
+use Rattle.machine.proofs.Done.{Did, role, call-carried}
+use Rattle.machine.proofs.Keeping.{begin, begin-ok, did-ok, finish-ok}
+use Rattle.machine.proofs.Invariants.{step-on}
 use Rattle.balance.specs.Counting.{accepted, asks, gives, namesIn, Asking, counts, issuedBy, grantsIn, Open, isIssuer, tries, isIn}
 use Rattle.balance.specs.Fresh.{declaration}
 use Rattle.balance.specs.Balance.{prevents}
@@ -59,21 +59,21 @@ module _ (a : Answer) (r : Read) (l : List ℕ) (before : Running) where
   openThen was i = ((was i && not (isIn (a .ended) i)) || (asksThen i && not (tries r))) && not (isIn (a .granted) i)
 
 -- What each step keeps, besides the kernel test.
-pub record Invariant (day : ℕ) (k : Kernel) (last : Asking) (was : Open) : Type 0 where
-  pub ok : KernelOk day k
+pub record Invariant (day : ℕ) (k : State) (last : Asking) (was : Open) : Type 0 where
+  pub ok : StateOk day k
   pub ties : Ties (k .counts .tasks) (k .tasks) last
   pub opens : (i : ℕ) → i < k .counts .tasks → was i ≡ waiting (taskAt (k .tasks) i .wait)
   pub exclusive : Exclusive (k .counts .bolts) (k .locks)
 
-pub record StepBooks (day : ℕ) (k : Kernel) (last : Asking) (was : Open) (r : Read) (l : List ℕ) (s : Stepped) : Type 0 where
-  pub next : Invariant day (s .kernel) (lastThen (s .answer) r l (runner k) last) (openThen (s .answer) r l (runner k) was)
-  pub counts-same : s .kernel .counts ≡ k .counts
-  pub runs : s .answer .running ≡ runner (s .kernel)
-  pub marked : (i : ℕ) → i < k .counts .tasks → Marked (accepted (s .answer) && prevents r i) (taskAt (k .tasks) i) (taskAt (s .kernel .tasks) i) (has i (s .answer .due)) (has i (s .answer .started)) (has i (s .answer .ended)) (has i (s .answer .lost))
-  pub values : (v : Wait) (x : ℕ) → Law v (level v (s .kernel .locks) x) (grantsIn (k .counts .tasks) v x (lastThen (s .answer) r l (runner k) last) (s .answer .granted)) (bit (accepted (s .answer)) * counts v x (namesIn gives r l)) (level v (k .locks) x)
+pub record StepBooks (day : ℕ) (k : State) (last : Asking) (was : Open) (r : Read) (l : List ℕ) (s : Stepped) : Type 0 where
+  pub next : Invariant day (s .state) (lastThen (s .answer) r l (runner k) last) (openThen (s .answer) r l (runner k) was)
+  pub counts-same : s .state .counts ≡ k .counts
+  pub runs : s .answer .running ≡ runner (s .state)
+  pub marked : (i : ℕ) → i < k .counts .tasks → Marked (accepted (s .answer) && prevents r i) (taskAt (k .tasks) i) (taskAt (s .state .tasks) i) (has i (s .answer .due)) (has i (s .answer .started)) (has i (s .answer .ended)) (has i (s .answer .lost))
+  pub values : (v : Wait) (x : ℕ) → Law v (level v (s .state .locks) x) (grantsIn (k .counts .tasks) v x (lastThen (s .answer) r l (runner k) last) (s .answer .granted)) (bit (accepted (s .answer)) * counts v x (namesIn gives r l)) (level v (k .locks) x)
   pub grants : (i : ℕ) → i < k .counts .tasks → has i (s .answer .granted) ≡ 1 → openNow (s .answer) r l (runner k) was i ≡ true
   pub never-1 : s .answer .number ≢ 1
-  pub begun : s .kernel .begun ≡ (k .begun || accepted (s .answer))
+  pub begun : s .state .begun ≡ (k .begun || accepted (s .answer))
   pub declared : Declared (k .counts .tasks) (s .answer .due) (s .answer .started) (s .answer .ended) (s .answer .lost) (s .answer .granted)
 
 or-more : (a b c : Bool) → (a || (b && c)) ≡ true → (a || b) ≡ true
@@ -81,7 +81,7 @@ or-more true b c e = refl
 or-more false true c e = refl
 or-more false false c e = e
 
-module _ (day : ℕ) (isDay : IsDay day) (k : Kernel) (last : Asking) (was : Open) (h : Invariant day k last was) where
+module _ (day : ℕ) (isDay : IsDay day) (k : State) (last : Asking) (was : Open) (h : Invariant day k last was) where
   abbrev n : ℕ
   n = k .counts .tasks
 

@@ -21,16 +21,16 @@ use Rattle.task.specs.State.{noTask, isKept, wanted}
 use Rattle.task.specs.declared.Task.{Task}
 use Rattle.task.specs.declared.Turn.{Turn}
 use Rattle.task.specs.Promises.{Fair}
-use Rattle.kernel.specs.declared.Kernel.{Kernel}
-use Rattle.kernel.specs.declared.Running.{Running}
-use Rattle.kernel.specs.Sets.{has}
-use Rattle.kernel.specs.State.{taskAt}
-use Rattle.kernel.specs.Running.{runner}
-use Rattle.kernel.specs.Work.{Work, oneTurn, everyTurn}
-use Rattle.kernel.proofs.Sets.{has-empty, has-only, has-only-other, pow-pos, only-lt}
-use Rattle.kernel.proofs.Facts.{KernelOk, task-room}
-use Rattle.kernel.proofs.Works.{turn-at, set-at, set-lt}
-use Rattle.kernel.proofs.Done.{Role, plain}
+use Rattle.machine.specs.declared.State.{State}
+use Rattle.machine.specs.declared.Running.{Running}
+use Rattle.machine.specs.Sets.{has}
+use Rattle.machine.specs.State.{taskAt}
+use Rattle.machine.specs.Running.{runner}
+use Rattle.machine.specs.Work.{Work, oneTurn, everyTurn}
+use Rattle.machine.proofs.Sets.{has-empty, has-only, has-only-other, pow-pos, only-lt}
+use Rattle.machine.proofs.Facts.{StateOk, task-room}
+use Rattle.machine.proofs.Works.{turn-at, set-at, set-lt}
+use Rattle.machine.proofs.Done.{Role, plain}
 use Rattle.balance.specs.Counting.{Named, Asking, counts, issuedBy, grantsIn, Open, isIssuer, isIn}
 use Rattle.balance.proofs.Grants.{no-grants, no-kind}
 
@@ -78,10 +78,10 @@ lastIf n before last = cond (waiting (n .kind)) (issuedBy before n last) last
 abbrev pub waitsNow : Role → Running → Open → ℕ → Open
 waitsNow r before was ended i = (was i && not (isIn ended i)) || (asksIf (r .asks) before i && r .stays)
 
-abbrev pub waitingIn : Kernel → Open
+abbrev pub waitingIn : State → Open
 waitingIn k i = waiting (taskAt (k .tasks) i .wait)
 
-pub record WorkBooks (k : Kernel) (c : Call) (r : Role) (last last′ : Asking) (w : Work) : Type 0 where
+pub record WorkBooks (k : State) (c : Call) (r : Role) (last last′ : Asking) (w : Work) : Type 0 where
   pub marked : (i : ℕ) → i < k .counts .tasks
       → Marked (r .prevents && eqb (c .head .number) i) (taskAt (k .tasks) i) (taskAt (w .tasks) i) (has i (w .due)) (has i (w .started)) (has i (w .ended)) (has i (w .lost))
   pub ties : Ties (k .counts .tasks) (k .tasks) last → Ties (k .counts .tasks) (w .tasks) last′
@@ -94,7 +94,7 @@ pub record WorkBooks (k : Kernel) (c : Call) (r : Role) (last last′ : Asking) 
   pub declared : Declared (k .counts .tasks) (w .due) (w .started) (w .ended) (w .lost) (w .granted)
 
 -- Nothing granted and nothing given back.
-pub unmoved : (k : Kernel) (l : List ℕ) (last : Asking) (v : Wait) (x : ℕ)
+pub unmoved : (k : State) (l : List ℕ) (last : Asking) (v : Wait) (x : ℕ)
     → Law v (level v (k .locks) x) (grantsIn (k .counts .tasks) v x last 0) (counts v x (record { kind = Nothing; list = l })) (level v (k .locks) x)
 unmoved k l last v x = rw (no-grants (k .counts .tasks) v x last, no-kind v x l) (law-refl v (level v (k .locks) x))
 
@@ -109,7 +109,7 @@ prevents-other : (p : Bool) (x i j : ℕ) → (p ≡ true → x ≡ i) → j ≢
 prevents-other false x i j f ne = refl
 prevents-other true x i j f ne = ne-eqb x j (λ e. ne (sym e ∙ f refl))
 
-module _ (day : ℕ) (k : Kernel) (h : KernelOk day k) (c : Call) where
+module _ (day : ℕ) (k : State) (h : StateOk day k) (c : Call) where
   abbrev n : ℕ
   n = k .counts .tasks
 

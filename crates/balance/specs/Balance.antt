@@ -13,22 +13,22 @@ use Rattle.record.specs.declared.Read.the-variants.{Refused, Accepted}
 use Rattle.lock.specs.Locks.{bit, waiting, level}
 use Rattle.lock.specs.declared.Wait.the-variants.{Request, Reserve, Enter}
 use Rattle.task.specs.State.{isKept}
-use Rattle.kernel.specs.Sets.{has}
-use Rattle.kernel.specs.State.{taskAt}
-use Rattle.kernel.specs.Granting.{servable}
-use Rattle.kernel.specs.Test.{valid}
-use Rattle.kernel.specs.Step.{step}
-use Rattle.kernel.specs.Log.{Entry, final, log}
-use Rattle.kernel.specs.Invariants.{IsDay}
-use Rattle.kernel.specs.declared.Kernel.{Kernel}
-use Rattle.kernel.specs.declared.Answer.{Answer}
-use Rattle.kernel.specs.declared.Running.the-variants.{Idle}
+use Rattle.machine.specs.Sets.{has}
+use Rattle.machine.specs.State.{taskAt}
+use Rattle.machine.specs.Granting.{servable}
+use Rattle.machine.specs.Test.{valid}
+use Rattle.machine.specs.Step.{step}
+use Rattle.machine.specs.Log.{Entry, final, log}
+use Rattle.machine.specs.Invariants.{IsDay}
+use Rattle.machine.specs.declared.State.{State}
+use Rattle.machine.specs.declared.Answer.{Answer}
+use Rattle.machine.specs.declared.Running.the-variants.{Idle}
 use Rattle.balance.specs.Counting.{count, accepted, returned, granted, noneOpen, GrantsOpen, openFrom}
 use Rattle.balance.specs.Fresh.{AllOctets, Fresh, acceptedDeclaration, without}
 
 -- ---- sums over the log, from the fresh kernel k to the last kernel z
 
-pub record Sums (k : Kernel) (es : List Entry) (z : Kernel) : Type 0 where
+pub record Sums (k : State) (es : List Entry) (z : State) : Type 0 where
   -- dues = starts + losses + the one kept back
   pub dues : (i : ℕ) → i < k .counts .tasks
       → count (λ a. a .due) i es
@@ -64,12 +64,12 @@ prevents (Refused n) i = false
 prevents (Accepted h) i = is (h .mark) PR && eqb (h .number) i
 
 -- The two ways to lose a start; both need one kept back.
-abbrev pub loses : Kernel → List ℕ → Answer → ℕ → Bool
+abbrev pub loses : State → List ℕ → Answer → ℕ → Bool
 loses k r a i =
     isKept (taskAt (k .tasks) i .kept)
     && ((eqb (has i (a .due)) 1 && taskAt (k .tasks) i .alive) || (accepted a && prevents (opened r .answer) i))
 
-pub record RightStep (day : ℕ) (k : Kernel) (r : List ℕ) (a : Answer) (z : Kernel) : Type 0 where
+pub record RightStep (day : ℕ) (k : State) (r : List ℕ) (a : Answer) (z : State) : Type 0 where
   -- every kernel on the way passes the kernel test, so refusal 1 never arises
   pub tested : valid day k ≡ true
   pub never-1 : a .number ≢ 1
@@ -84,14 +84,14 @@ pub record RightStep (day : ℕ) (k : Kernel) (r : List ℕ) (a : Answer) (z : K
   -- a call was accepted after this record exactly when one was before or is now
   pub begun : z .begun ≡ (k .begun || accepted a)
 
-unfoldable pub AtEachRecord : ℕ → Kernel → List (List ℕ) → Type 0
+unfoldable pub AtEachRecord : ℕ → State → List (List ℕ) → Type 0
 AtEachRecord day k [] = Unit {0}
 AtEachRecord day k (r ∷ rs) =
-    RightStep day k r (step day k r .answer) (step day k r .kernel) × AtEachRecord day (step day k r .kernel) rs
+    RightStep day k r (step day k r .answer) (step day k r .state) × AtEachRecord day (step day k r .state) rs
 
 -- ---- the theorem
 
-pub record Balanced (day : ℕ) (k : Kernel) (rs : List (List ℕ)) : Type 0 where
+pub record Balanced (day : ℕ) (k : State) (rs : List (List ℕ)) : Type 0 where
   pub sums : Sums k (log day k rs) (final day k rs)
   pub each : AtEachRecord day k rs
   pub last-tested : valid day (final day k rs) ≡ true
@@ -99,5 +99,5 @@ pub record Balanced (day : ℕ) (k : Kernel) (rs : List (List ℕ)) : Type 0 whe
 -- For every fresh kernel and every list of records, whatever their bytes, without an accepted declaration among them.
 abbrev pub Balance : Type 0
 Balance =
-    (day : ℕ) → IsDay day → (k : Kernel) → Fresh day k → (rs : List (List ℕ)) → AllOctets rs
+    (day : ℕ) → IsDay day → (k : State) → Fresh day k → (rs : List (List ℕ)) → AllOctets rs
     → without acceptedDeclaration (log day k rs) ≡ true → Balanced day k rs

@@ -15,12 +15,12 @@ use Rattle.record.specs.declared.Read.the-variants.{Refused, Accepted}
 use Rattle.lock.specs.Locks.{bit, waiting, sameKind}
 use Rattle.lock.specs.declared.Wait.{Wait}
 use Rattle.lock.specs.declared.Wait.the-variants.{Nothing, Request, Reserve, Enter}
-use Rattle.kernel.specs.Sets.{has}
-use Rattle.kernel.specs.Sums.{sumBelow}
-use Rattle.kernel.specs.Log.{Entry}
-use Rattle.kernel.specs.declared.Answer.{Answer}
-use Rattle.kernel.specs.declared.Running.{Running}
-use Rattle.kernel.specs.declared.Running.the-variants.{Idle, Runs}
+use Rattle.machine.specs.Sets.{has}
+use Rattle.machine.specs.Sums.{sumBelow}
+use Rattle.machine.specs.Log.{Entry}
+use Rattle.machine.specs.declared.Answer.{Answer}
+use Rattle.machine.specs.declared.Running.{Running}
+use Rattle.machine.specs.declared.Running.the-variants.{Idle, Runs}
 
 -- How many answers have task i in the set that f reads.
 unfoldable pub count : (Answer → ℕ) → ℕ → List Entry → ℕ

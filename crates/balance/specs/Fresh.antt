@@ -8,12 +8,12 @@ use Rattle.layout.specs.Fields.{Octets}
 use Rattle.record.specs.declared.Read.{Read}
 use Rattle.record.specs.declared.Read.the-variants.{Refused, Accepted}
 use Rattle.lock.specs.Locks.{emptyBolt, boltAt}
-use Rattle.kernel.specs.State.{taskAt, enabledAt, freshTask, nothing}
-use Rattle.kernel.specs.Test.{valid}
-use Rattle.kernel.specs.Refusals.{declares}
-use Rattle.kernel.specs.Log.{Entry, final, log}
-use Rattle.kernel.specs.Invariants.{IsDay, Tables}
-use Rattle.kernel.specs.declared.Kernel.{Kernel}
+use Rattle.machine.specs.State.{taskAt, enabledAt, freshTask, nothing}
+use Rattle.machine.specs.Test.{valid}
+use Rattle.machine.specs.Refusals.{declares}
+use Rattle.machine.specs.Log.{Entry, final, log}
+use Rattle.machine.specs.Invariants.{IsDay, Tables}
+use Rattle.machine.specs.declared.State.{State}
 use Rattle.balance.specs.Counting.{accepted}
 
 -- Records are lists of bytes, of any length.
@@ -22,7 +22,7 @@ AllOctets [] = Unit {0}
 AllOctets (r ∷ rs) = Octets r × AllOctets rs
 
 -- A fresh kernel.
-pub record Fresh (day : ℕ) (k : Kernel) : Type 0 where
+pub record Fresh (day : ℕ) (k : State) : Type 0 where
   pub tables : Tables k
   pub tested : valid day k ≡ true
   pub instant : k .now .0 ≡ 0

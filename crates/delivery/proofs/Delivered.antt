@@ -8,20 +8,20 @@ use Rattle.calendar.specs.Limits.{day}
 use Rattle.layout.specs.Fields.{Octets}
 use Rattle.record.specs.Reading.{opened}
 use Rattle.lock.proofs.Bools.{byBool, and-both, not-of-false}
-use Rattle.kernel.specs.State.{nothing}
-use Rattle.kernel.specs.Step.{step}
-use Rattle.kernel.specs.Log.{final, log}
-use Rattle.kernel.specs.Invariants.{IsDay}
-use Rattle.kernel.proofs.Facts.{KernelOk, ok-of-passes}
-use Rattle.kernel.proofs.Invariants.{step-ok}
+use Rattle.machine.specs.State.{nothing}
+use Rattle.machine.specs.Step.{step}
+use Rattle.machine.specs.Log.{final, log}
+use Rattle.machine.specs.Invariants.{IsDay}
+use Rattle.machine.proofs.Facts.{StateOk, ok-of-passes}
+use Rattle.machine.proofs.Invariants.{step-ok}
 use Rattle.balance.specs.Counting.{accepted}
 use Rattle.balance.specs.Fresh.{AllOctets, Fresh, declaration, acceptedDeclaration, acceptedCall, without}
 use Rattle.balance.specs.Balance.{AtEachRecord}
 use Rattle.balance.proofs.Balanced.{balance}
 use Rattle.balance.proofs.Fresh.{declared-is-fresh}
-use Rattle.rack.specs.Reply.{reply}
-use Rattle.rack.specs.declared.Rack.{Rack}
-use Rattle.rack.specs.declared.Reply.{Reply}
+use Rattle.kernel.specs.Reply.{reply}
+use Rattle.kernel.specs.declared.Kernel.{Kernel}
+use Rattle.kernel.specs.declared.Reply.{Reply}
 use Rattle.delivery.specs.Delivered.{HandedFresh, Use, Promised, Handed, records, AnyRecords, entry, answers, last, AtEachUse, CodeBalances, Delivered, FreshDelivers}
 use Rattle.delivery.proofs.Begun.{step-begins, begun-declares-none}
 
@@ -30,24 +30,24 @@ isDay = record { some = omega arith; room = omega arith }
 
 -- ---- one use is the machine's step
 
-module _ (a : Rack) (u : Use) (p : Promised a u) where
-  replied : u .reply ≡ reply (step day (a .kernel) (u .bytes))
-  replied = p .learnt ∙ ap (λ (r : List ℕ). reply (step day (a .kernel) r)) (p .refers)
+module _ (a : Kernel) (u : Use) (p : Promised a u) where
+  replied : u .reply ≡ reply (step day (a .state) (u .bytes))
+  replied = p .learnt ∙ ap (λ (r : List ℕ). reply (step day (a .state) r)) (p .refers)
 
-  next-kernel : u .reply .rack .kernel ≡ step day (a .kernel) (u .bytes) .kernel
+  next-state : u .reply .kernel .state ≡ step day (a .state) (u .bytes) .state
   unfolding reply
-  next-kernel = ap (λ (r : Reply). r .rack .kernel) replied
+  next-state = ap (λ (r : Reply). r .kernel .state) replied
 
-  answered : u .reply .answer ≡ step day (a .kernel) (u .bytes) .answer
+  answered : u .reply .answer ≡ step day (a .state) (u .bytes) .answer
   unfolding reply
   answered = ap (λ (r : Reply). r .answer) replied
 
 -- ---- any records
 
-abbrev used : Rack → List ℕ → Use
-used a r = record { bytes = r; reply = reply (step day (a .kernel) r) }
+abbrev used : Kernel → List ℕ → Use
+used a r = record { bytes = r; reply = reply (step day (a .state) r) }
 
-used-promised : (a : Rack) (r : List ℕ) → Promised a (used a r)
+used-promised : (a : Kernel) (r : List ℕ) → Promised a (used a r)
 used-promised a r = record { lifetime = []; slice = record { ptr = (0, 0); name = 0; now = r }; refers = refl; learnt = refl }
 
 pub any-records : AnyRecords
@@ -55,30 +55,30 @@ unfolding Handed records
 any-records [] a = ([], tt, refl)
 any-records (r ∷ rs) a =
     let u = used a r in
-    let (us, h, e) = any-records rs (u .reply .rack) in
+    let (us, h, e) = any-records rs (u .reply .kernel) in
     (u ∷ us, (used-promised a r, h), ap (λ (l : List (List ℕ)). r ∷ l) e)
 
 -- ---- a list of uses is the machine's list
 
-as-log : (us : List Use) (a : Rack) → Handed a us → answers us ≡ log day (a .kernel) (records us)
+as-log : (us : List Use) (a : Kernel) → Handed a us → answers us ≡ log day (a .state) (records us)
 unfolding Handed answers records log
 as-log [] a h = refl
-as-log (u ∷ us) a h = rw (as-log us (u .reply .rack) (h .1), next-kernel a u (h .0), answered a u (h .0))
+as-log (u ∷ us) a h = rw (as-log us (u .reply .kernel) (h .1), next-state a u (h .0), answered a u (h .0))
 
-as-final : (us : List Use) (a : Rack) → Handed a us → last a us .kernel ≡ final day (a .kernel) (records us)
+as-final : (us : List Use) (a : Kernel) → Handed a us → last a us .state ≡ final day (a .state) (records us)
 unfolding Handed last records final
 as-final [] a h = refl
-as-final (u ∷ us) a h = rw (as-final us (u .reply .rack) (h .1), next-kernel a u (h .0))
+as-final (u ∷ us) a h = rw (as-final us (u .reply .kernel) (h .1), next-state a u (h .0))
 
-at-each : (us : List Use) (a : Rack) → Handed a us → AtEachRecord day (a .kernel) (records us) → AtEachUse a us
+at-each : (us : List Use) (a : Kernel) → Handed a us → AtEachRecord day (a .state) (records us) → AtEachUse a us
 unfolding Handed records AtEachRecord AtEachUse
 at-each [] a h e = tt
 at-each (u ∷ us) a h e =
-    (rw (next-kernel a u (h .0), answered a u (h .0)) (e .0), at-each us (u .reply .rack) (h .1) (rw (next-kernel a u (h .0)) (e .1)))
+    (rw (next-state a u (h .0), answered a u (h .0)) (e .0), at-each us (u .reply .kernel) (h .1) (rw (next-state a u (h .0)) (e .1)))
 
 pub code-balances : CodeBalances
 code-balances a f us h o q =
-    let b = balance day isDay (a .kernel) f (records us) o (rw (← as-log us a h) q) in
+    let b = balance day isDay (a .state) f (records us) o (rw (← as-log us a h) q) in
     record {
       sums = rw (as-log us a h, as-final us a h) (b .sums);
       each = at-each us a h (b .each);
@@ -87,7 +87,7 @@ code-balances a f us h o q =
 
 -- ---- a list of uses parts where the first call is accepted
 
-record Parts (a : Rack) (us : List Use) : Type 0 where
+record Parts (a : Kernel) (us : List Use) : Type 0 where
   declaring : List Use
   working : List Use
   parts : us ≡ declaring ++ working
@@ -103,15 +103,15 @@ call-declares-not true true e = e
 call-declares-not true false e = refl
 call-declares-not false d e = refl
 
-next-ok : (a : Rack) (u : Use) → Promised a u → KernelOk day (a .kernel) → Octets (u .bytes) → KernelOk day (u .reply .rack .kernel)
-next-ok a u p k o = rw (next-kernel a u p) (step-ok day isDay (a .kernel) k (u .bytes) o)
+next-ok : (a : Kernel) (u : Use) → Promised a u → StateOk day (a .state) → Octets (u .bytes) → StateOk day (u .reply .kernel .state)
+next-ok a u p k o = rw (next-state a u p) (step-ok day isDay (a .state) k (u .bytes) o)
 
-next-begun : (a : Rack) (u : Use) → Promised a u → KernelOk day (a .kernel) → Octets (u .bytes)
-    → acceptedCall (entry u) ≡ true → u .reply .rack .kernel .begun ≡ true
+next-begun : (a : Kernel) (u : Use) → Promised a u → StateOk day (a .state) → Octets (u .bytes)
+    → acceptedCall (entry u) ≡ true → u .reply .kernel .state .begun ≡ true
 next-begun a u p k o e =
-    rw (next-kernel a u p) (step-begins day isDay (a .kernel) k (u .bytes) o .begins (rw (← answered a u p) e))
+    rw (next-state a u p) (step-begins day isDay (a .state) k (u .bytes) o .begins (rw (← answered a u p) e))
 
-none : (a : Rack) → Parts a []
+none : (a : Kernel) → Parts a []
 unfolding Handed answers records last without AllOctets
 none a =
     record {
@@ -127,7 +127,7 @@ none a =
     }
 
 -- Here the first call is accepted.
-from-here : (a : Rack) (u : Use) (us : List Use) → Handed a (u ∷ us) → AllOctets (records (u ∷ us)) → acceptedCall (entry u) ≡ true
+from-here : (a : Kernel) (u : Use) (us : List Use) → Handed a (u ∷ us) → AllOctets (records (u ∷ us)) → acceptedCall (entry u) ≡ true
     → without acceptedDeclaration (answers us) ≡ true → Parts a (u ∷ us)
 unfolding Handed answers records last without AllOctets
 from-here a u us h o e q =
@@ -144,8 +144,8 @@ from-here a u us h o e q =
     }
 
 -- Not yet.
-one-more : (a : Rack) (u : Use) (us : List Use) → Promised a u → Octets (u .bytes) → acceptedCall (entry u) ≡ false
-    → Parts (u .reply .rack) us → Parts a (u ∷ us)
+one-more : (a : Kernel) (u : Use) (us : List Use) → Promised a u → Octets (u .bytes) → acceptedCall (entry u) ≡ false
+    → Parts (u .reply .kernel) us → Parts a (u ∷ us)
 unfolding Handed answers records last without AllOctets
 one-more a u us p o e t =
     record {
@@ -160,31 +160,31 @@ one-more a u us p o e t =
       working-octets = t .working-octets;
     }
 
-in-parts : (us : List Use) (a : Rack) → KernelOk day (a .kernel) → Handed a us → AllOctets (records us) → Parts a us
+in-parts : (us : List Use) (a : Kernel) → StateOk day (a .state) → Handed a us → AllOctets (records us) → Parts a us
 unfolding Handed records AllOctets
 in-parts [] a k h o = none a
 in-parts (u ∷ us) a k h o =
-    let b = u .reply .rack in
+    let b = u .reply .kernel in
     let k′ = next-ok a u (h .0) k (o .0) in
     byBool (acceptedCall (entry u))
     (λ e. from-here a u us h o e
-    (rw (as-log us b (h .1)) (begun-declares-none day isDay (records us) (b .kernel) k′ (o .1) (next-begun a u (h .0) k (o .0) e))))
+    (rw (as-log us b (h .1)) (begun-declares-none day isDay (records us) (b .state) k′ (o .1) (next-begun a u (h .0) k (o .0) e))))
     (λ e. one-more a u us (h .0) (o .0) e (in-parts us b k′ (h .1) (o .1)))
 
--- ---- from what `Rack::fresh` hands back
+-- ---- from what `Kernel::fresh` hands back
 
-nothing-ok : KernelOk day nothing
+nothing-ok : StateOk day nothing
 unfolding AllOctets without log final
 nothing-ok = let f = declared-is-fresh day isDay [] tt refl in ok-of-passes day nothing (record { tables = f .tables; tested = f .tested })
 
-declared-rack-fresh : (a : Rack) → HandedFresh a → (us : List Use) → Handed a us → AllOctets (records us)
-    → without acceptedCall (answers us) ≡ true → Fresh day (last a us .kernel)
-declared-rack-fresh a m us h o q =
+declared-kernel-fresh : (a : Kernel) → HandedFresh a → (us : List Use) → Handed a us → AllOctets (records us)
+    → without acceptedCall (answers us) ≡ true → Fresh day (last a us .state)
+declared-kernel-fresh a m us h o q =
     rw (as-final us a h, m) (declared-is-fresh day isDay (records us) o (rw (as-log us a h, m) at q))
 
-delivered : (a : Rack) (us : List Use) → HandedFresh a → Parts a us → Delivered a us
+delivered : (a : Kernel) (us : List Use) → HandedFresh a → Parts a us → Delivered a us
 delivered a us m t =
-    let f = declared-rack-fresh a m (t .declaring) (t .declaring-handed) (t .declaring-octets) (t .no-call) in
+    let f = declared-kernel-fresh a m (t .declaring) (t .declaring-handed) (t .declaring-octets) (t .no-call) in
     record {
       declaring = t .declaring;
       working = t .working;

@@ -1,4 +1,4 @@
--- The balance of what the code hands back: `Rack::fresh`, and then `Rack::step` for one record after the other.
+-- The balance of what the code hands back: `Kernel::fresh`, and then `Kernel::step` for one record after the other.
 -- What the code promises is taken from the contracts of the two, as a caller learns it. Proved in proofs/Delivered.antt.
 use mathlib.Core.Path.{_≡_}
 use mathlib.Core.Bool.{true}
@@ -7,37 +7,37 @@ use Prim.Native.Nat.{ℕ}
 use base.Fml.{Lft}
 use denote.Ref.{RefT}
 use Rattle.calendar.specs.Limits.{day}
-use Rattle.kernel.specs.Test.{valid}
-use Rattle.kernel.specs.Log.{Entry}
+use Rattle.machine.specs.Test.{valid}
+use Rattle.machine.specs.Log.{Entry}
 use Rattle.balance.specs.Fresh.{AllOctets, Fresh, acceptedDeclaration, acceptedCall, without}
 use Rattle.balance.specs.Balance.{Sums, RightStep}
-use Rattle.rack.specs.declared.Rack.{Rack}
-use Rattle.rack.specs.declared.Reply.{Reply}
-use Rattle.rack.proofs.Rack.fresh.Reads as fresh
-use Rattle.rack.proofs.Rack.step.Reads as step
+use Rattle.kernel.specs.declared.Kernel.{Kernel}
+use Rattle.kernel.specs.declared.Reply.{Reply}
+use Rattle.kernel.proofs.Kernel.fresh.Reads as fresh
+use Rattle.kernel.proofs.Kernel.step.Reads as step
 
 -- ---- what the contracts promise
 
--- What `Rack::fresh` promises of the rack that it hands back.
-abbrev pub HandedFresh : Rack → Type 0
+-- What `Kernel::fresh` promises of the kernel that it hands back.
+abbrev pub HandedFresh : Kernel → Type 0
 HandedFresh a = fresh.Learnt tt tt a tt
 
--- One use of `Rack::step`: the record handed over, and the reply handed back.
+-- One use of `Kernel::step`: the record handed over, and the reply handed back.
 pub record Use : Type 0 where
   pub bytes : List ℕ
   pub reply : Reply
 
--- What `Rack::step` promises of a use on rack a, for some slice that refers to the record.
-pub record Promised (a : Rack) (u : Use) : Type 0 where
+-- What `Kernel::step` promises of a use on kernel a, for some slice that refers to the record.
+pub record Promised (a : Kernel) (u : Use) : Type 0 where
   pub lifetime : Lft
   pub slice : RefT (List ℕ)
   pub refers : slice .now ≡ u .bytes
   pub learnt : step.Learnt (lifetime, tt) (a, (slice, tt)) (u .reply) (a, (slice, tt))
 
--- One after the other: each use is on the rack that the one before handed back.
-unfoldable pub Handed : Rack → List Use → Type 0
+-- One after the other: each use is on the kernel that the one before handed back.
+unfoldable pub Handed : Kernel → List Use → Type 0
 Handed a [] = Unit {0}
-Handed a (u ∷ us) = Promised a u × Handed (u .reply .rack) us
+Handed a (u ∷ us) = Promised a u × Handed (u .reply .kernel) us
 
 -- ---- what was handed over, and what came back
 
@@ -45,9 +45,9 @@ unfoldable pub records : List Use → List (List ℕ)
 records [] = []
 records (u ∷ us) = u .bytes ∷ records us
 
--- Any records can be handed over, to any rack.
+-- Any records can be handed over, to any kernel.
 abbrev pub AnyRecords : Type 0
-AnyRecords = (rs : List (List ℕ)) (a : Rack) → (us : List Use) × Handed a us × (records us ≡ rs)
+AnyRecords = (rs : List (List ℕ)) (a : Kernel) → (us : List Use) × Handed a us × (records us ≡ rs)
 
 -- The records with the code's answers.
 abbrev pub entry : Use → Entry
@@ -57,39 +57,39 @@ unfoldable pub answers : List Use → List Entry
 answers [] = []
 answers (u ∷ us) = entry u ∷ answers us
 
--- The rack that came back last.
-unfoldable pub last : Rack → List Use → Rack
+-- The kernel that came back last.
+unfoldable pub last : Kernel → List Use → Kernel
 last a [] = a
-last a (u ∷ us) = last (u .reply .rack) us
+last a (u ∷ us) = last (u .reply .kernel) us
 
 -- ---- the balance
 
-unfoldable pub AtEachUse : Rack → List Use → Type 0
+unfoldable pub AtEachUse : Kernel → List Use → Type 0
 AtEachUse a [] = Unit {0}
 AtEachUse a (u ∷ us) =
-    RightStep day (a .kernel) (u .bytes) (u .reply .answer) (u .reply .rack .kernel) × AtEachUse (u .reply .rack) us
+    RightStep day (a .state) (u .bytes) (u .reply .answer) (u .reply .kernel .state) × AtEachUse (u .reply .kernel) us
 
-pub record CodeBalanced (a : Rack) (us : List Use) : Type 0 where
-  pub sums : Sums (a .kernel) (answers us) (last a us .kernel)
+pub record CodeBalanced (a : Kernel) (us : List Use) : Type 0 where
+  pub sums : Sums (a .state) (answers us) (last a us .state)
   pub each : AtEachUse a us
-  pub last-tested : valid day (last a us .kernel) ≡ true
+  pub last-tested : valid day (last a us .state) ≡ true
 
--- From any rack that is fresh, without an accepted declaration.
+-- From any kernel that is fresh, without an accepted declaration.
 abbrev pub CodeBalances : Type 0
 CodeBalances =
-    (a : Rack) → Fresh day (a .kernel) → (us : List Use) → Handed a us → AllOctets (records us)
+    (a : Kernel) → Fresh day (a .state) → (us : List Use) → Handed a us → AllOctets (records us)
     → without acceptedDeclaration (answers us) ≡ true → CodeBalanced a us
 
 -- A list of uses in two parts: the first without an accepted call, the second without an accepted declaration.
-pub record Delivered (a : Rack) (us : List Use) : Type 0 where
+pub record Delivered (a : Kernel) (us : List Use) : Type 0 where
   pub declaring : List Use
   pub working : List Use
   pub parts : us ≡ declaring ++ working
   pub no-call : without acceptedCall (answers declaring) ≡ true
   pub no-declaration : without acceptedDeclaration (answers working) ≡ true
-  pub fresh : Fresh day (last a declaring .kernel)
+  pub fresh : Fresh day (last a declaring .state)
   pub balanced : CodeBalanced (last a declaring) working
 
--- From what `Rack::fresh` hands back, whatever the records.
+-- From what `Kernel::fresh` hands back, whatever the records.
 abbrev pub FreshDelivers : Type 0
-FreshDelivers = (a : Rack) → HandedFresh a → (us : List Use) → Handed a us → AllOctets (records us) → Delivered a us
+FreshDelivers = (a : Kernel) → HandedFresh a → (us : List Use) → Handed a us → AllOctets (records us) → Delivered a us

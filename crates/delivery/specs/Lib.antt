@@ -1,2 +1,2 @@
--- The balance of what `Rack::fresh` and `Rack::step` hand back.
+-- The balance of what `Kernel::fresh` and `Kernel::step` hand back.
 pub mod Delivered

@@ -1,127 +1,129 @@
--- What accepted declarations and calls do (document 01, "Records" and "The step").
-use mathlib.Core.Bool.{Bool, false, cond}
-use Prim.Native.Nat.{ℕ, zero, suc, _+_, _^_}
-use lib.ListN.{set}
-use lib.Dec.{eqb}
-use Rattle.calendar.specs.Limits.{tick as oneTick}
-use Rattle.calendar.specs.Times.{instant, duration, plus}
-use Rattle.calendar.specs.declared.Instant.{Instant}
-use Rattle.calendar.specs.declared.Start.{Start}
-use Rattle.calendar.specs.declared.Start.the-variants.{Now, At, After}
-use Rattle.calendar.specs.declared.End.{End}
-use Rattle.calendar.specs.declared.End.the-variants.{Open, Until, During}
-use Rattle.calendar.specs.declared.Moment.the-variants.{Never}
-use Rattle.record.specs.Refusals.{atTime, afterDuration, onInterrupt, named}
-use Rattle.layout.specs.declared.Head.{Head}
+-- The call or declaration that each method stands for (document 01, "Records", "Start kinds").
+use mathlib.Core.List.{List, [], _∷_}
+use Prim.Native.Nat.{ℕ}
 use Rattle.layout.specs.declared.Call.{Call}
-use Rattle.lock.specs.Locks.{emptyBolt, withValue, withBolt, takeAll, giveAll}
-use Rattle.lock.specs.declared.Wait.{Wait}
-use Rattle.task.specs.State.{waitFor}
-use Rattle.task.specs.Schedules.{launch}
-use Rattle.task.specs.Turns.{unmarked, dueTurn, tickTurn, scheduleTurn, triggerTurn, orElse}
-use Rattle.task.specs.declared.Plan.the-variants.{Clock, Armed}
-use Rattle.task.specs.declared.Schedule.{Schedule}
-use Rattle.task.specs.declared.Task.{Task}
-use Rattle.task.specs.declared.Turn.{Turn}
-use Rattle.kernel.specs.declared.Kernel.{Kernel}
-use Rattle.kernel.specs.declared.Running.{Running}
-use Rattle.kernel.specs.declared.Running.the-variants.{Idle, Runs}
-use Rattle.kernel.specs.State.{taskAt, enabledAt, freshTask, withState, withCounts}
-use Rattle.kernel.specs.Running.{runner}
-use Rattle.kernel.specs.Granting.{couldBeGranted}
-use Rattle.kernel.specs.Work.{Work, onlyLocks, noWork, turnOf, everyTurn}
+use Rattle.layout.specs.declared.Mark.{Mark}
+use Rattle.layout.specs.declared.Mark.the-variants.{DT, DS, DB, IT, DC, AC, TE, SU, PR, CO, EN, RE, RQ, RL, TR, RS, FR, ET, LV, TG, EI, XI, TI}
+use Rattle.kernel.specs.declared.StartCondition.{StartCondition}
 
--- ---- declarations: the next place of the kind is filled whole
+-- No number in any of the four places of a list.
+abbrev pub noList : List ℕ
+noList = 0 ∷ 0 ∷ 0 ∷ 0 ∷ []
 
-unfoldable pub addTask : ℕ → Kernel → Kernel
-addTask p k =
-    let n = k .counts in
-    withCounts
-    (record { tasks = n .tasks + 1; semaphores = n .semaphores; bolts = n .bolts; interrupts = n .interrupts })
-    (withState (set (k .tasks) (n .tasks) (freshTask p)) (k .locks) (k .enabled) k)
+-- One number, in the first place.
+abbrev pub oneNumber : ℕ → List ℕ
+oneNumber n = n ∷ 0 ∷ 0 ∷ 0 ∷ []
 
-unfoldable pub addSemaphore : ℕ → Kernel → Kernel
-addSemaphore v k =
-    let n = k .counts in
-    withCounts
-    (record { tasks = n .tasks; semaphores = n .semaphores + 1; bolts = n .bolts; interrupts = n .interrupts })
-    (withState (k .tasks) (withValue (k .locks) (n .semaphores) v) (k .enabled) k)
-
-unfoldable pub addBolt : Kernel → Kernel
-addBolt k =
-    let n = k .counts in
-    withCounts
-    (record { tasks = n .tasks; semaphores = n .semaphores; bolts = n .bolts + 1; interrupts = n .interrupts })
-    (withState (k .tasks) (withBolt (k .locks) (n .bolts) emptyBolt) (k .enabled) k)
-
-unfoldable pub addInterrupt : Kernel → Kernel
-addInterrupt k =
-    let n = k .counts in
-    withCounts
-    (record { tasks = n .tasks; semaphores = n .semaphores; bolts = n .bolts; interrupts = n .interrupts + 1 })
-    (withState (k .tasks) (k .locks) (set (k .enabled) (n .interrupts) false) k)
-
--- ---- ACTIVATE
-
--- When a start kind first comes due.
-abbrev pub startOf : ℕ → ℕ → Start
-startOf kind first = cond (atTime kind) (At first) (cond (afterDuration kind) (After (duration first)) Now)
-
-abbrev pub endOf : ℕ → ℕ → End
-endOf zero t = Open
-endOf (suc zero) t = Until t
-endOf (suc (suc n)) t = During (duration t)
-
--- A WHEN schedule, armed, with the priority p.
-abbrev pub armed : Head → ℕ → Schedule
-armed h p =
+-- A call without a start condition: mark, number, priority, length, list, first time.
+abbrev pub plainCall : Mark → ℕ → ℕ → ℕ → List ℕ → ℕ → Call
+plainCall mark number priority len list first =
     record {
-      alarm =
-          record { plan = Armed; interrupt = h .interrupt; delay = duration (h .first); next = instant 0 };
-      last = Never;
-      end = endOf (h .endkind) (h .endtime);
-      period = h .period;
-      priority = p;
+      head =
+          record {
+            mark = mark;
+            number = number;
+            priority = priority;
+            len = len;
+            kind = 0;
+            interrupt = 0;
+            endkind = 0;
+            first = first;
+            period = 0;
+            endtime = 0;
+          };
+      list = list;
     }
 
-module _ (day clock : ℕ) (n : Instant) where
-  -- The schedule that an activation at n gives a task.
-  unfoldable pub scheduleOf : Head → ℕ → Schedule
-  scheduleOf h p =
-      cond (onInterrupt (h .kind)) (armed h p) (launch day clock Clock (startOf (h .kind) (h .first)) n (armed h p))
+-- ---- declarations
 
-  -- Kind 0 is due for the task; another kind replaces its schedule. Priority 0 is the declared one.
-  unfoldable pub activateTurn : Head → Task → Turn
-  activateTurn h t =
-      let p = orElse (h .priority) (t .declared) in
-      cond (eqb (h .kind) 0) (dueTurn p t) (scheduleTurn n (scheduleOf h p) t)
+abbrev pub taskDeclaration : ℕ → Call
+taskDeclaration priority = plainCall DT 0 priority 0 noList 0
+
+abbrev pub semaphoreDeclaration : ℕ → Call
+semaphoreDeclaration preset = plainCall DS 0 0 0 noList preset
+
+abbrev pub boltDeclaration : Call
+boltDeclaration = plainCall DB 0 0 0 noList 0
+
+abbrev pub interruptDeclaration : Call
+interruptDeclaration = plainCall IT 0 0 0 noList 0
+
+abbrev pub clockDeclaration : ℕ → Call
+clockDeclaration timeOfDay = plainCall DC 0 0 0 noList timeOfDay
+
+-- ---- tasks
+
+-- ACTIVATE has its start condition's six fields, and no list.
+abbrev pub activateCall : ℕ → ℕ → StartCondition → Call
+activateCall task priority start =
+    record {
+      head =
+          record {
+            mark = AC;
+            number = task;
+            priority = priority;
+            len = 0;
+            kind = start .kind;
+            interrupt = start .interrupt;
+            endkind = start .endkind;
+            first = start .first;
+            period = start .period;
+            endtime = start .endtime;
+          };
+      list = noList;
+    }
+
+abbrev pub terminateCall : ℕ → Call
+terminateCall task = plainCall TE task 0 0 noList 0
+
+abbrev pub suspendCall : ℕ → Call
+suspendCall task = plainCall SU task 0 0 noList 0
+
+abbrev pub preventCall : ℕ → Call
+preventCall task = plainCall PR task 0 0 noList 0
+
+abbrev pub continueCall : ℕ → ℕ → Call
+continueCall task priority = plainCall CO task priority 0 noList 0
+
+abbrev pub endCall : Call
+endCall = plainCall EN 0 0 0 noList 0
+
+abbrev pub resumeCall : ℕ → Call
+resumeCall duration = plainCall RE 0 0 0 noList duration
 
 -- ---- semaphores and bolts
 
--- The runner asks for a list: it is granted whole, or the runner waits; a TRY doesn't wait.
-unfoldable pub askAs : Kernel → Running → Bool → Wait → Call → Work
-askAs k Idle waits w c = noWork k
-askAs k (Runs i) waits w c =
-    cond (couldBeGranted (k .counts .tasks) (k .tasks) (k .locks) (taskAt (k .tasks) i .current) w (named c))
-    (onlyLocks k (takeAll w (k .locks) (named c)) (k .enabled) (2 ^ i))
-    (cond waits (turnOf k i (λ t. unmarked (waitFor w (c .head .len) (c .list) t))) (noWork k))
+abbrev pub requestCall : ℕ → List ℕ → Call
+requestCall len list = plainCall RQ 0 0 len list 0
 
-abbrev pub ask : Kernel → Bool → Wait → Call → Work
-ask k waits w c = askAs k (runner k) waits w c
+abbrev pub releaseCall : ℕ → List ℕ → Call
+releaseCall len list = plainCall RL 0 0 len list 0
 
--- RELEASE, FREE, LEAVE.
-abbrev pub giveBack : Kernel → Wait → Call → Work
-giveBack k w c = onlyLocks k (giveAll w (k .locks) (named c)) (k .enabled) 0
+abbrev pub tryCall : ℕ → Call
+tryCall semaphore = plainCall TR 0 0 1 (oneNumber semaphore) 0
 
-abbrev pub enable : Kernel → ℕ → Bool → Work
-enable k i b = onlyLocks k (k .locks) (set (k .enabled) i b) 0
+abbrev pub reserveCall : ℕ → List ℕ → Call
+reserveCall len list = plainCall RS 0 0 len list 0
 
--- ---- every task
+abbrev pub freeCall : ℕ → List ℕ → Call
+freeCall len list = plainCall FR 0 0 len list 0
 
--- TRIGGER of interrupt i. A disabled one changes nothing.
-unfoldable pub trigger : ℕ → Kernel → ℕ → Work
-trigger day k i = cond (enabledAt k i) (everyTurn k (k .now) (triggerTurn day (k .clock) (k .now) i)) (noWork k)
+abbrev pub enterCall : ℕ → List ℕ → Call
+enterCall len list = plainCall ET 0 0 len list 0
 
--- One tick.
-unfoldable pub tick : Kernel → Work
-tick k = everyTurn k (plus (k .now) (duration oneTick)) (tickTurn (plus (k .now) (duration oneTick)))
+abbrev pub leaveCall : ℕ → List ℕ → Call
+leaveCall len list = plainCall LV 0 0 len list 0
+
+-- ---- interrupts and the clock
+
+abbrev pub triggerCall : ℕ → Call
+triggerCall interrupt = plainCall TG interrupt 0 0 noList 0
+
+abbrev pub enableCall : ℕ → Call
+enableCall interrupt = plainCall EI interrupt 0 0 noList 0
+
+abbrev pub disableCall : ℕ → Call
+disableCall interrupt = plainCall XI interrupt 0 0 noList 0
+
+abbrev pub tickCall : Call
+tickCall = plainCall TI 0 0 0 noList 0

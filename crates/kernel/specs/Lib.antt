@@ -1,23 +1,3 @@
--- The machine of document 01, in the order to read it.
-pub mod Sums
-pub mod Sets
-pub mod State
-pub mod Running
-pub mod Granting
-pub mod Work
-pub mod Serving
-pub mod Test
-pub mod Refusals
+-- What the methods promise: the call that each stands for, and the reply to it.
+pub mod Reply
 pub mod Calls
-pub mod Step
-pub mod Log
--- What it keeps, for every kernel value and any bytes.
-pub mod Promises
-pub mod Whole
-pub mod Invariants
-pub mod Beyond
-pub mod Scripts
-pub mod Quiet
--- What it answers: document 01's marked cases and slips.
-pub mod Marked
-pub mod Slips

@@ -1,45 +1,33 @@
-// The rack kernel's state, and what a step hands back.
-use calendar::Instant;
-use lock::Locks;
-use task::Task;
+// The rack kernel as its users handle it: a value, with a method for each call and declaration.
+pub mod clock;
+pub mod declarations;
+pub mod handling;
+pub mod locks;
+mod plain;
+pub mod tasks;
 
-// How many of each kind are declared.
-pub struct Counts {
-    pub tasks: u8,
-    pub semaphores: u8,
-    pub bolts: u8,
-    pub interrupts: u8,
-}
+use machine::Answer;
+use machine::State;
 
+// The kernel, as a program hands it on.
 pub struct Kernel {
-    pub tasks: [Task; 32],
-    pub locks: Locks,
-    pub enabled: [bool; 8],
-    pub counts: Counts,
-    // The time of day at instant 0.
-    pub clock: u32,
-    pub now: Instant,
-    // Whether a call was accepted yet.
-    pub begun: bool,
+    pub state: State,
 }
 
-pub enum Running {
-    Idle,
-    Runs(u8),
-}
-
-// A number, 0 or a refusal; the running task; and sets of tasks in which task i counts 2^i.
-pub struct Answer {
-    pub number: u8,
-    pub running: Running,
-    pub due: u32,
-    pub started: u32,
-    pub ended: u32,
-    pub lost: u32,
-    pub granted: u32,
-}
-
-pub struct Stepped {
+// The next kernel, and the answer.
+pub struct Reply {
     pub kernel: Kernel,
     pub answer: Answer,
+}
+
+// PEARL's start condition in the fields of a record: the kind (0 none, 1 AT, 2 AFTER, 3 WHEN, 4 WHEN AFTER,
+// 5 ALL), the interrupt of WHEN, the end kind (0 none, 1 UNTIL, 2 DURING), and the times of AT or AFTER, of ALL,
+// and of UNTIL or DURING.
+pub struct StartCondition {
+    pub kind: u8,
+    pub interrupt: u8,
+    pub endkind: u8,
+    pub first: u32,
+    pub period: u32,
+    pub endtime: u32,
 }

@@ -7,9 +7,9 @@ use native.Mathlib.Omega.{arith}
 use lib.Dec.{leb}
 use lib.ListN.{length, length-append}
 use borrow.Author.Tests.{leb-true}
-use Rattle.kernel.specs.declared.Answer.{Answer}
-use Rattle.kernel.specs.declared.Running.{Running}
-use Rattle.kernel.specs.declared.Running.the-variants.{Idle, Runs}
+use Rattle.machine.specs.declared.Answer.{Answer}
+use Rattle.machine.specs.declared.Running.{Running}
+use Rattle.machine.specs.declared.Running.the-variants.{Idle, Runs}
 use Rattle.lock.proofs.Bools.{both}
 use Rattle.lines.specs.Decimals.{spelt, decimal, value, isDigit, allDigits}
 use Rattle.lines.specs.Lines.{space, dash, lineFeed, runningText, setsText, line, RunningByte, NoLineLonger, LinesReadBack}

@@ -6,8 +6,8 @@ ghost use lib.ListN.{length};
 ghost use Rattle.lines.specs.Buffers.{Wrote};
 ghost use Rattle.lines.specs.Decimals.{decimal};
 ghost use Rattle.lines.specs.Lines.{space, runningText, setsText, line, longestLine};
-use kernel::Answer;
-use kernel::Running;
+use machine::Answer;
+use machine::Running;
 
 // How many digits a number has.
 fn digits_of(n: u32) -> usize

@@ -2,11 +2,11 @@
 ghost use mathlib.Core.Path.{_≡_};
 ghost use mathlib.Core.List.{List, [], _∷_};
 use calendar::Instant;
-use kernel::Answer;
+use kernel::Kernel;
+use kernel::Reply;
+use kernel::StartCondition;
 use lines::line_at;
-use rack::Rack;
-use rack::Reply;
-use rack::StartCondition;
+use machine::Answer;
 
 fn print_line(a: Answer) {
     let mut out = io::buffer();
@@ -14,16 +14,16 @@ fn print_line(a: Answer) {
     io::write_all(1, &out[..n]);
 }
 
-// Prints the line of a reply, unless it answers an accepted declaration, and hands its rack on.
-fn show(r: Reply) -> Rack
-    ensures { λ z. ⌜ z ≡ r .rack ⌝ }
+// Prints the line of a reply, unless it answers an accepted declaration, and hands its kernel on.
+fn show(r: Reply) -> Kernel
+    ensures { λ z. ⌜ z ≡ r .kernel ⌝ }
 {
-    let rack = r.rack;
+    let kernel = r.kernel;
     let answer = r.answer;
-    if (answer.number != 0) | rack.kernel.begun {
+    if (answer.number != 0) | kernel.state.begun {
         print_line(answer);
     }
-    rack
+    kernel
 }
 
 // A start of a kind on interrupt 0, once.
@@ -42,85 +42,85 @@ fn start_of(kind: u8) -> StartCondition
 
 // Two tasks ask for a semaphore and a bolt.
 fn locks() {
-    let mut rack = Rack::fresh();
-    rack = show(rack.declare_task(5));
-    rack = show(rack.declare_task(3));
-    rack = show(rack.declare_semaphore(1));
-    rack = show(rack.declare_bolt());
-    rack = show(rack.activate(0, 0, start_of(0)));
-    rack = show(rack.request(1, [0; 4]));
-    rack = show(rack.activate(1, 0, start_of(0)));
-    rack = show(rack.try_request(0));
-    rack = show(rack.request(1, [0; 4]));
-    rack = show(rack.release(1, [0; 4]));
-    rack = show(rack.reserve(1, [0; 4]));
-    rack = show(rack.free(1, [0; 4]));
-    rack = show(rack.enter(1, [0; 4]));
-    rack = show(rack.leave(1, [0; 4]));
-    show(rack.leave(1, [0; 4]));
+    let mut kernel = Kernel::fresh();
+    kernel = show(kernel.declare_task(5));
+    kernel = show(kernel.declare_task(3));
+    kernel = show(kernel.declare_semaphore(1));
+    kernel = show(kernel.declare_bolt());
+    kernel = show(kernel.activate(0, 0, start_of(0)));
+    kernel = show(kernel.request(1, [0; 4]));
+    kernel = show(kernel.activate(1, 0, start_of(0)));
+    kernel = show(kernel.try_request(0));
+    kernel = show(kernel.request(1, [0; 4]));
+    kernel = show(kernel.release(1, [0; 4]));
+    kernel = show(kernel.reserve(1, [0; 4]));
+    kernel = show(kernel.free(1, [0; 4]));
+    kernel = show(kernel.enter(1, [0; 4]));
+    kernel = show(kernel.leave(1, [0; 4]));
+    show(kernel.leave(1, [0; 4]));
 }
 
 // Holds and delays, and the ends of tasks.
 fn holds() {
-    let mut rack = Rack::fresh();
-    rack = show(rack.declare_task(5));
-    rack = show(rack.declare_task(3));
-    rack = show(rack.activate(0, 0, start_of(0)));
-    rack = show(rack.activate(1, 0, start_of(0)));
-    rack = show(rack.suspend(1));
-    rack = show(rack.continue_task(1, 7));
-    rack = show(rack.resume(2));
-    rack = show(rack.tick());
-    rack = show(rack.tick());
-    rack = show(rack.end());
-    rack = show(rack.terminate(1));
-    rack = show(rack.end());
-    show(rack.declare_bolt());
+    let mut kernel = Kernel::fresh();
+    kernel = show(kernel.declare_task(5));
+    kernel = show(kernel.declare_task(3));
+    kernel = show(kernel.activate(0, 0, start_of(0)));
+    kernel = show(kernel.activate(1, 0, start_of(0)));
+    kernel = show(kernel.suspend(1));
+    kernel = show(kernel.continue_task(1, 7));
+    kernel = show(kernel.resume(2));
+    kernel = show(kernel.tick());
+    kernel = show(kernel.tick());
+    kernel = show(kernel.end());
+    kernel = show(kernel.terminate(1));
+    kernel = show(kernel.end());
+    show(kernel.declare_bolt());
 }
 
 // Starts by interrupt 0: made, kept back, lost.
 fn starts() {
-    let mut rack = Rack::fresh();
-    rack = show(rack.declare_task(5));
-    rack = show(rack.declare_interrupt());
-    rack = show(rack.declare_clock(43200000));
-    rack = show(rack.activate(0, 0, start_of(3)));
-    rack = show(rack.trigger(0));
-    rack = show(rack.enable(0));
-    rack = show(rack.trigger(0));
-    rack = show(rack.trigger(0));
-    rack = show(rack.trigger(0));
-    rack = show(rack.disable(0));
-    rack = show(rack.trigger(0));
-    show(rack.prevent(0));
+    let mut kernel = Kernel::fresh();
+    kernel = show(kernel.declare_task(5));
+    kernel = show(kernel.declare_interrupt());
+    kernel = show(kernel.declare_clock(43200000));
+    kernel = show(kernel.activate(0, 0, start_of(3)));
+    kernel = show(kernel.trigger(0));
+    kernel = show(kernel.enable(0));
+    kernel = show(kernel.trigger(0));
+    kernel = show(kernel.trigger(0));
+    kernel = show(kernel.trigger(0));
+    kernel = show(kernel.disable(0));
+    kernel = show(kernel.trigger(0));
+    show(kernel.prevent(0));
 }
 
 // The last instant, reached by writing it into the kernel.
 fn last_instant() {
-    let mut rack = Rack::fresh();
-    rack = show(rack.declare_task(5));
+    let mut kernel = Kernel::fresh();
+    kernel = show(kernel.declare_task(5));
     let near = Instant(1099511627775);
-    let mut k = rack.kernel;
+    let mut k = kernel.state;
     k.now = near;
-    rack = show(Rack { kernel: k }.activate(0, 0, start_of(0)));
-    rack = show(rack.tick());
-    rack = show(rack.tick());
-    rack = show(rack.terminate(0));
-    show(rack.tick());
+    kernel = show(Kernel { state: k }.activate(0, 0, start_of(0)));
+    kernel = show(kernel.tick());
+    kernel = show(kernel.tick());
+    kernel = show(kernel.terminate(0));
+    show(kernel.tick());
 }
 
 // A kernel value outside the limits, and back inside.
 fn beyond_limits() {
-    let mut rack = Rack::fresh();
-    rack = show(rack.declare_task(5));
-    rack = show(rack.activate(0, 0, start_of(0)));
-    let mut k = rack.kernel;
+    let mut kernel = Kernel::fresh();
+    kernel = show(kernel.declare_task(5));
+    kernel = show(kernel.activate(0, 0, start_of(0)));
+    let mut k = kernel.state;
     k.clock = 86400000;
-    rack = show(Rack { kernel: k }.tick());
-    rack = show(rack.step(b"TI"));
-    k = rack.kernel;
+    kernel = show(Kernel { state: k }.tick());
+    kernel = show(kernel.step(b"TI"));
+    k = kernel.state;
     k.clock = 86399999;
-    show(Rack { kernel: k }.tick());
+    show(Kernel { state: k }.tick());
 }
 
 fn main() {

@@ -6,9 +6,9 @@ use native.Mathlib.Omega.{arith}
 use lib.ListN.{length, drop, length-append, length-drop}
 use lib.Seq.{drop-drop}
 use Rattle.calendar.specs.Limits.{day}
-use Rattle.kernel.specs.Log.{final, log}
-use Rattle.kernel.specs.declared.Kernel.{Kernel}
-use Rattle.kernel.proofs.Rows.{final-append}
+use Rattle.machine.specs.Log.{final, log}
+use Rattle.machine.specs.declared.State.{State}
+use Rattle.machine.proofs.Rows.{final-append}
 use Rattle.lines.specs.Lines.{longestLine}
 use Rattle.script.specs.Printed.{lines}
 use Rattle.script.specs.Records.{records}
@@ -19,17 +19,17 @@ use Rattle.script.proofs.PromiseProofs.{scripts-carried}
 use Rattle.script.proofs.RecordLaws.{first-record, records-over}
 
 -- At the end of the script the machine has nothing more to do.
-pub at-end : (k : Kernel) (s : List ℕ) (at : ℕ) {last : Kernel} → length s ≤ at → final day k (records (drop at s)) ≡ last → k ≡ last
+pub at-end : (k : State) (s : List ℕ) (at : ℕ) {last : State} → length s ≤ at → final day k (records (drop at s)) ≡ last → k ≡ last
 unfolding final
 at-end k s at h e = rw (records-over s at h) at e
 
 -- Nothing done is no text.
-no-text : (k : Kernel) → lines (log day k []) ≡ []
+no-text : (k : State) → lines (log day k []) ≡ []
 unfolding lines log
 no-text k = refl
 
 -- With room for a longest line, less is left than there was.
-fewer : (k : Kernel) (rs : List (List ℕ)) (room : ℕ) (c : Carried) → Carries day k rs room c → longestLine ≤ room → 0 < length rs
+fewer : (k : State) (rs : List (List ℕ)) (room : ℕ) (c : Carried) → Carries day k rs room c → longestLine ≤ room → 0 < length rs
     → length (c .left) < length rs
 fewer k rs room c g h some-there = go (g .done) (c .left) refl refl
   where
@@ -42,12 +42,12 @@ fewer k rs room c g h some-there = go (g .done) (c .left) refl refl
         let s = ap length (g .split ∙ ap (λ (y : List (List ℕ)). y ++ c .left) e) in
         omega (arith, s, length-append (x ∷ d) (c .left))
 
-module _ (k : Kernel) (s before after : List ℕ) (at : ℕ) (r : Ran) (t : Runs day k (drop at s) before after r) where
-  pub stays : final day (r .rack .kernel) (records (drop (at + r .read) s)) ≡ final day k (records (drop at s))
+module _ (k : State) (s before after : List ℕ) (at : ℕ) (r : Ran) (t : Runs day k (drop at s) before after r) where
+  pub stays : final day (r .kernel .state) (records (drop (at + r .read) s)) ≡ final day k (records (drop at s))
   stays =
       let g = scripts-carried day k (records (drop at s)) (length before) in
       let rest : records (drop (at + r .read) s) ≡ carried day k (records (drop at s)) (length before) .left = rw (← drop-drop (r .read) at s) (t .rest) in
-      let last = t .kernel ∙ g .kernel in
+      let last = t .state ∙ g .state in
       rw (last, rest) (sym (final-append day k (g .done) _) ∙ ap (final day k) (sym (g .split)))
 
   pub gets-on : longestLine ≤ length before → at < length s → 0 < r .read

@@ -5,42 +5,42 @@ ghost use Prim.Native.Nat.{_≤_, _-_};
 ghost use lib.ListN.{length, drop};
 ghost use lib.Seq.{paste};
 ghost use Rattle.calendar.specs.Limits.{day};
-ghost use Rattle.kernel.specs.Log.{final};
+ghost use Rattle.machine.specs.Log.{final};
 ghost use Rattle.lines.specs.Lines.{longestLine};
 ghost use Rattle.script.specs.Records.{records};
+use kernel::Kernel;
 use libc::STDIN_FILENO;
 use libc::STDOUT_FILENO;
-use rack::Rack;
 use script::run::RECORD_LENGTH;
 use script::run::run;
 
-// The rack after some records, and whether their lines could be written.
+// The kernel after some records, and whether their lines could be written.
 struct Progress {
-    rack: Rack,
+    kernel: Kernel,
     ok: bool,
 }
 
 // Carries the records of s out and writes their lines, a buffer full at a time.
-fn carry(rack: Rack, s: &[u8], out: &mut [u8]) -> Progress
+fn carry(kernel: Kernel, s: &[u8], out: &mut [u8]) -> Progress
     requires { ⌜ longestLine ≤ length (now out) ⌝ }
-    ensures { λ r. ⌜ (r .ok ≡ true → r .rack .kernel ≡ final day (rack .kernel) (records (now (s .entry)))) ⌝ }
+    ensures { λ r. ⌜ (r .ok ≡ true → r .kernel .state ≡ final day (kernel .state) (records (now (s .entry)))) ⌝ }
 {
-    let mut now = rack;
+    let mut now = kernel;
     let mut at = 0;
     while at < s.len() {
         let ran = run(now, &s[at..], out);
-        now = ran.rack;
+        now = ran.kernel;
         at = at + ran.read;
         if !io::write_all(STDOUT_FILENO, &out[..ran.written]) {
             os::fail(b"rackrun: standard output");
             return Progress {
-                rack: now,
+                kernel: now,
                 ok: false,
             };
         }
     }
     Progress {
-        rack: now,
+        kernel: now,
         ok: true,
     }
 }
@@ -63,7 +63,7 @@ fn keep(buf: &mut [u8], from: usize, to: usize) -> usize
 fn main() {
     let mut input = io::large_buffer();
     let mut output = io::large_buffer();
-    let mut rack = Rack::fresh();
+    let mut kernel = Kernel::fresh();
     let mut held = 0;
     let mut turns = u64::MAX;
     while turns > 0 {
@@ -80,14 +80,14 @@ fn main() {
         } else {
             total - total % RECORD_LENGTH
         };
-        let p = carry(rack, &input[..whole], &mut output);
+        let p = carry(kernel, &input[..whole], &mut output);
         if !p.ok {
             return;
         }
         if n == 0 {
             return;
         }
-        rack = p.rack;
+        kernel = p.kernel;
         held = keep(&mut input, whole, total);
     }
 }

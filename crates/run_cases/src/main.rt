@@ -2,21 +2,21 @@
 // for the lines, so that it gets full. Standard input and output are those of step_cases.
 ghost use mathlib.Core.Path.{_≡_};
 ghost use Prim.Native.Nat.{_≤_};
-use rack::Rack;
+use kernel::Kernel;
 use script::run::run;
 
 // A script's lines, a buffer full at a time.
 fn print_script(s: &[u8]) {
     let mut out = [0u8; 200];
-    let mut rack = Rack::fresh();
+    let mut kernel = Kernel::fresh();
     let mut at = 0;
     while at < s.len() {
-        let ran = run(rack, &s[at..], &mut out);
+        let ran = run(kernel, &s[at..], &mut out);
         io::write_all(1, &out[..ran.written]);
         if ran.read == 0 {
             return;
         }
-        rack = ran.rack;
+        kernel = ran.kernel;
         at = at + ran.read;
     }
 }

@@ -18,23 +18,23 @@ use Rattle.lock.proofs.Bools.{byBool, both}
 use Rattle.record.specs.Refusals.{named}
 use Rattle.task.specs.declared.Task.{Task}
 use Rattle.task.specs.declared.Turn.{Turn}
-use Rattle.kernel.specs.Calls.{askAs, trigger, tick}
-use Rattle.kernel.specs.Granting.{couldBeGranted}
-use Rattle.kernel.specs.Refusals.{declaredIn}
-use Rattle.kernel.specs.Running.{runner}
-use Rattle.kernel.specs.Serving.{Served, grantTo}
-use Rattle.kernel.specs.Sets.{setOf}
-use Rattle.kernel.specs.State.{mostTasks, taskAt, enabledAt}
-use Rattle.kernel.specs.Step.{refuse, finish, declared, carryOut, step}
-use Rattle.kernel.specs.Work.{Work, onlyLocks, oneTurn, turnOfRunner, turns, everyTurn}
-use Rattle.kernel.specs.declared.Kernel.{Kernel}
-use Rattle.kernel.specs.declared.Running.{Running}
-use Rattle.kernel.specs.declared.Running.the-variants.{Idle, Runs}
-use Rattle.kernel.proofs.Cases.{step-cases}
-use Rattle.kernel.proofs.Passed.{passed, tested}
-use Rattle.kernel.proofs.Serving.{serve-keeps}
-use Rattle.kernel.proofs.Sets.{only-lt, put-lt, pow-lt, setOf-lt}
-use Rattle.kernel.proofs.Urgency.{Below, runner-below}
+use Rattle.machine.specs.Calls.{askAs, trigger, tick}
+use Rattle.machine.specs.Granting.{couldBeGranted}
+use Rattle.machine.specs.Refusals.{declaredIn}
+use Rattle.machine.specs.Running.{runner}
+use Rattle.machine.specs.Serving.{Served, grantTo}
+use Rattle.machine.specs.Sets.{setOf}
+use Rattle.machine.specs.State.{mostTasks, taskAt, enabledAt}
+use Rattle.machine.specs.Step.{refuse, finish, declared, carryOut, step}
+use Rattle.machine.specs.Work.{Work, onlyLocks, oneTurn, turnOfRunner, turns, everyTurn}
+use Rattle.machine.specs.declared.State.{State}
+use Rattle.machine.specs.declared.Running.{Running}
+use Rattle.machine.specs.declared.Running.the-variants.{Idle, Runs}
+use Rattle.machine.proofs.Cases.{step-cases}
+use Rattle.machine.proofs.Passed.{passed, tested}
+use Rattle.machine.proofs.Serving.{serve-keeps}
+use Rattle.machine.proofs.Sets.{only-lt, put-lt, pow-lt, setOf-lt}
+use Rattle.machine.proofs.Urgency.{Below, runner-below}
 use Rattle.lines.specs.Lines.{RunningByte, InTypes}
 
 abbrev Word : ℕ → Type 0
@@ -53,7 +53,7 @@ set-word g f n ts h =
     let l : length (map g (turns n f ts)) ≤ 32 = omega (arith, length-map (turns n f ts) g, length-map (take n ts) f, length-take n ts) in
     omega (arith, setOf-lt (map g (turns n f ts)), pow-mono l)
 
-module _ (k : Kernel) where
+module _ (k : State) where
   sized-locks : (r : Locks) (is : List Bool) (g : ℕ) → Word g → Sized (onlyLocks k r is g)
   unfolding onlyLocks
   sized-locks r is g h = record { due = omega arith; started = omega arith; ended = omega arith; lost = omega arith; granted = h }
@@ -107,7 +107,7 @@ module _ (k : Kernel) where
     in-finish w s =
         record {
           number = omega arith;
-          running = running-byte (finish k w .answer .running) (runner-below (finish k w .kernel));
+          running = running-byte (finish k w .answer .running) (runner-below (finish k w .state));
           due = s .due;
           started = s .started;
           ended = s .ended;
@@ -130,7 +130,7 @@ module _ (k : Kernel) where
           granted = omega arith;
         }
 
-    in-declared : (d : Kernel) → InTypes (declared k d .answer)
+    in-declared : (d : State) → InTypes (declared k d .answer)
     unfolding declared refuse
     in-declared d = in-plain 0 (omega arith)
 
@@ -173,7 +173,7 @@ module _ (k : Kernel) where
       in-out XI e = in-locks _ _
       in-out TI e = unfold tick in in-finish _ (sized-every _ _)
 
-in-first : (k : Kernel) → InTypes (refuse k 1 Idle .answer)
+in-first : (k : State) → InTypes (refuse k 1 Idle .answer)
 unfolding refuse
 in-first k =
     record {
@@ -186,7 +186,7 @@ in-first k =
       granted = omega arith;
     }
 
-pub answer-in-types : (day : ℕ) (k : Kernel) (s : List ℕ) → InTypes (step day k s .answer)
+pub answer-in-types : (day : ℕ) (k : State) (s : List ℕ) → InTypes (step day k s .answer)
 answer-in-types day k =
     step-cases day k (λ t. InTypes (t .answer)) (λ v. in-first k) (λ v n a b. in-plain k (tested day k v .fits .tasks) n b)
     (λ v c e. in-out k (tested day k v .fits .tasks) day c (c .head .mark) (passed day k c e .0 .known))

@@ -11,31 +11,31 @@ use borrow.Author.Tests.{leb-true, leb-false, ltb-true, ltb-false}
 use Rattle.calendar.specs.Limits.{day, lastInstant}
 use Rattle.calendar.specs.Times.{duration, plus}
 use Rattle.layout.specs.Fields.{recordLength, Octets}
-use Rattle.kernel.specs.Invariants.{IsDay, Tables}
-use Rattle.kernel.specs.Running.{runner}
-use Rattle.kernel.specs.State.{mostTasks, begunAt}
-use Rattle.kernel.specs.Step.{plainAnswer, step}
-use Rattle.kernel.specs.Test.{valid}
-use Rattle.kernel.specs.declared.Kernel.{Kernel}
-use Rattle.kernel.specs.declared.Running.{Running}
-use Rattle.kernel.specs.declared.Running.the-variants.{Idle}
-use Rattle.kernel.specs.declared.Stepped.{Stepped}
-use Rattle.kernel.proofs.Quiet.{quiet-step, still-valid}
-use Rattle.kernel.proofs.Invariants.{step-passes}
-use Rattle.kernel.proofs.Facts.{KernelOk, ok-of-passes}
-use Rattle.kernel.proofs.Answers.{answers-runner}
-use Rattle.kernel.proofs.Refused.{untested-refused}
+use Rattle.machine.specs.Invariants.{IsDay, Tables}
+use Rattle.machine.specs.Running.{runner}
+use Rattle.machine.specs.State.{mostTasks, begunAt}
+use Rattle.machine.specs.Step.{plainAnswer, step}
+use Rattle.machine.specs.Test.{valid}
+use Rattle.machine.specs.declared.State.{State}
+use Rattle.machine.specs.declared.Running.{Running}
+use Rattle.machine.specs.declared.Running.the-variants.{Idle}
+use Rattle.machine.specs.declared.Stepped.{Stepped}
+use Rattle.machine.proofs.Quiet.{quiet-step, still-valid}
+use Rattle.machine.proofs.Invariants.{step-passes}
+use Rattle.machine.proofs.Facts.{StateOk, ok-of-passes}
+use Rattle.machine.proofs.Answers.{answers-runner}
+use Rattle.machine.proofs.Refused.{untested-refused}
 use Rattle.lines.specs.Buffers.{placed, Wrote}
 use Rattle.lines.specs.Lines.{line, longestLine}
 use Rattle.lines.proofs.PlacedLaws.{then}
 use Rattle.lock.proofs.Bools.{byBool, both}
-use Rattle.engine.specs.Stirring.{isTick, QuietBefore}
+use Rattle.calls.specs.Stirring.{isTick, QuietBefore}
 use Rattle.script.specs.Records.{records}
 use Rattle.script.specs.Printed.{shown, printed}
 use Rattle.script.specs.Script.{afterText, carried, some, Tells}
 use Rattle.script.proofs.RecordLaws.{record-at, records-over}
 use Rattle.script.proofs.CarryLaws.{carried-none, carried-stop, carried-go, after-after}
-use Rattle.engine.proofs.StirLaws.{tick-bytes}
+use Rattle.calls.proofs.StirLaws.{tick-bytes}
 use Rattle.script.proofs.PrintLaws.{says, says-line}
 
 isDay : IsDay day
@@ -54,7 +54,7 @@ octets-part s at to o i =
     (omega arith))
 
 -- The text so far, and what is carried on from here gives the whole.
-pub record Going (script before : List ℕ) (start : Kernel) (ok : Bool) (buffer : List ℕ) (k : Kernel) (r : Running) (quiet at fill : ℕ) : Type 0 where
+pub record Going (script before : List ℕ) (start : State) (ok : Bool) (buffer : List ℕ) (k : State) (r : Running) (quiet at fill : ℕ) : Type 0 where
   pub text : List ℕ
   pub wrote : Wrote before 0 text buffer fill
   pub room : fill ≤ length before
@@ -71,12 +71,12 @@ pub record Going (script before : List ℕ) (start : Kernel) (ok : Bool) (buffer
 abbrev pub goes : List ℕ → List ℕ → ℕ → ℕ → Bool
 goes script buffer at fill = ltb at (length script) && leb longestLine (length buffer - fill)
 
-module _ {script before : List ℕ} {start : Kernel} {ok : Bool} {buffer : List ℕ} {k : Kernel} {r : Running} {quiet at fill : ℕ}
+module _ {script before : List ℕ} {start : State} {ok : Bool} {buffer : List ℕ} {k : State} {r : Running} {quiet at fill : ℕ}
     (g : Going script before start ok buffer k r quiet at fill) where
   pub good : ok ≡ true → valid day k ≡ true
   good o = sym (g .tested) ∙ o
 
-  ok-of : ok ≡ true → KernelOk day k
+  ok-of : ok ≡ true → StateOk day k
   ok-of o = ok-of-passes day k (record { tables = g .tables; tested = good o })
 
   pub early : ok ≡ true → k .now .0 ≤ lastInstant
@@ -86,14 +86,14 @@ module _ {script before : List ℕ} {start : Kernel} {ok : Bool} {buffer : List 
   few o = ok-of o .counts-ok .tasks
 
   -- What is left has no room, or there is nothing left.
-  told : (full : Bool) → carried day k (records (drop at script)) (length before - fill) ≡ record { kernel = k; text = []; left = records (drop at script) }
+  told : (full : Bool) → carried day k (records (drop at script)) (length before - fill) ≡ record { state = k; text = []; left = records (drop at script) }
       → full ≡ some (records (drop at script))
       → Tells (carried day start (records script) (length before)) script before buffer
-      (record { rack = record { kernel = k }; read = at; written = fill; full = full })
+      (record { kernel = record { state = k }; read = at; written = fill; full = full })
   told full e f =
-      let w : carried day start (records script) (length before) ≡ record { kernel = k; text = g .text; left = records (drop at script) } =
+      let w : carried day start (records script) (length before) ≡ record { state = k; text = g .text; left = records (drop at script) } =
       g .rest ∙ rw (e, append-nil (g .text)) in
-      rw w (record { kernel = refl; text = g .wrote; within = g .within; rest = refl; full = f })
+      rw w (record { state = refl; text = g .wrote; within = g .within; rest = refl; full = f })
 
   pub ahead : goes script buffer at fill ≡ true → at < length script
   ahead e = ltb-true at (length script) (both (ltb at (length script)) (leb longestLine (length buffer - fill)) e .0)
@@ -106,7 +106,7 @@ module _ {script before : List ℕ} {start : Kernel} {ok : Bool} {buffer : List 
   -- After it, what is left decides whether it is full.
   pub stopped : goes script buffer at fill ≡ false
       → Tells (carried day start (records script) (length before)) script before buffer
-      (record { rack = record { kernel = k }; read = at; written = fill; full = ltb at (length script) })
+      (record { kernel = record { state = k }; read = at; written = fill; full = ltb at (length script) })
   stopped e =
       byBool (ltb at (length script))
       (λ h.
@@ -122,8 +122,8 @@ module _ {script before : List ℕ} {start : Kernel} {ok : Bool} {buffer : List 
     -- One record more, with the machine's step z on it and z's line.
     turned : {r′ : Running} {quiet′ : ℕ} (z : Stepped) → z ≡ step day k (part script at to)
         → Wrote buffer fill (shown (says z) (z .answer)) buffer′ fill′ → fill′ ≤ fill + longestLine → length buffer′ ≡ length buffer
-        → Tables (z .kernel) → ok ≡ valid day (z .kernel) → (ok ≡ true → r′ ≡ runner (z .kernel)) → QuietBefore quiet′ (z .kernel)
-        → Going script before start ok buffer′ (z .kernel) r′ quiet′ to fill′
+        → Tables (z .state) → ok ≡ valid day (z .state) → (ok ≡ true → r′ ≡ runner (z .state)) → QuietBefore quiet′ (z .state)
+        → Going script before start ok buffer′ (z .state) r′ quiet′ to fill′
     turned z m w n b s v u q =
         let t : List ℕ = shown (says z) (z .answer) in
         let p : printed (part script at to) (step day k (part script at to) .answer) ≡ t = unfold printed in rw (says-line day k (part script at to), ← m) in
@@ -149,7 +149,7 @@ module _ {script before : List ℕ} {start : Kernel} {ok : Bool} {buffer : List 
     pub refused : ok ≡ false → Wrote buffer fill (line (plainAnswer 1 Idle)) buffer′ fill′ → fill′ ≤ fill + longestLine → length buffer′ ≡ length buffer
         → Going script before start ok buffer′ k r quiet to fill′
     refused o w n b =
-        turned (record { kernel = k; answer = plainAnswer 1 Idle }) (sym (untested-refused day k (part script at to) (sym (g .tested) ∙ o))) w n b (g .tables) (g .tested)
+        turned (record { state = k; answer = plainAnswer 1 Idle }) (sym (untested-refused day k (part script at to) (sym (g .tested) ∙ o))) w n b (g .tables) (g .tested)
         (g .runs) (g .still)
 
     module _ (o : ok ≡ true) where
@@ -158,11 +158,11 @@ module _ {script before : List ℕ} {start : Kernel} {ok : Bool} {buffer : List 
           → Wrote buffer fill (line (plainAnswer 0 r)) buffer′ fill′ → fill′ ≤ fill + longestLine → length buffer′ ≡ length buffer
           → Going script before start ok buffer′ (begunAt (plus (k .now) (duration 1)) k) r q to fill′
       moved q s t i j w n b =
-          let z : Stepped = record { kernel = begunAt (plus (k .now) (duration 1)) k; answer = plainAnswer 0 r } in
+          let z : Stepped = record { state = begunAt (plus (k .now) (duration 1)) k; answer = plainAnswer 0 r } in
           let m : z ≡ step day k (part script at to) =
           rw (tick-bytes (part script at to) t, g .runs o)
           (sym (quiet-step day k (g .tables .tasks) (good o) (λ c l x a b. s c l x a (omega arith)) i)) in
-          let v : valid day (z .kernel) ≡ true = still-valid day k (plus (k .now) (duration 1)) (omega arith) (omega arith) (good o) in
+          let v : valid day (z .state) ≡ true = still-valid day k (plus (k .now) (duration 1)) (omega arith) (omega arith) (good o) in
           turned z m w n b
           (record { tasks = g .tables .tasks; semaphores = g .tables .semaphores; bolts = g .tables .bolts; enabled = g .tables .enabled })
           (o ∙ sym v) (g .runs) (λ c l x a b. s c l x (omega arith) b)
@@ -170,14 +170,14 @@ module _ {script before : List ℕ} {start : Kernel} {ok : Bool} {buffer : List 
       -- Any other record.
       pub stepped : (z : Stepped) → z ≡ step day k (part script at to)
           → Wrote buffer fill (shown (says z) (z .answer)) buffer′ fill′ → fill′ ≤ fill + longestLine → length buffer′ ≡ length buffer
-          → Going script before start ok buffer′ (z .kernel) (z .answer .running) 0 to fill′
+          → Going script before start ok buffer′ (z .state) (z .answer .running) 0 to fill′
       stepped z m w n b =
           let p = step-passes day isDay k (record { tables = g .tables; tested = good o }) (part script at to) (octets-part script at to (g .octets)) in
           turned z m w n b (rw m (p .tables)) (o ∙ sym (rw m (p .tested))) (λ _. rw m (answers-runner day k (part script at to) (good o)))
           (λ c l x a b. absurd (omega arith))
 
 -- Where the loop begins.
-pub started : (script before : List ℕ) (k : Kernel) (ok : Bool) (r : Running) → Octets script → Tables k → ok ≡ valid day k → (valid day k ≡ true → r ≡ runner k)
+pub started : (script before : List ℕ) (k : State) (ok : Bool) (r : Running) → Octets script → Tables k → ok ≡ valid day k → (valid day k ≡ true → r ≡ runner k)
     → Going script before k ok before k r 0 0 0
 unfolding placed
 started script before k ok r o t v u =

@@ -4,14 +4,14 @@ use lib.ListN.{length-map}
 use denote.Shadow.{shadow}
 use denote.RattleType.{owns, Valss}
 use denote.Struct.Declared.{shape}
-use Rattle.kernel.specs.Invariants.{Tables}
-use Rattle.kernel.specs.declared.Kernel.{Kernel}
-use Rattle.kernel.proofs.Kernel as KernelT
+use Rattle.machine.specs.Invariants.{Tables}
+use Rattle.machine.specs.declared.State.{State}
+use Rattle.machine.proofs.State as KernelT
 
-abbrev pub Owned : Kernel → Type 0
+abbrev pub Owned : State → Type 0
 Owned k = (v : Valss (shape KernelT.the-type .fields)) × shadow (owns (shape KernelT.the-type .fields) (KernelT.the-type .to k) v)
 
-pub tables-long : (k : Kernel) → Owned k → Tables k
+pub tables-long : (k : State) → Owned k → Tables k
 tables-long k g =
     record {
       tasks = sym (length-map (k .tasks) _) ∙ g .1 .0 .1 .0 .1;

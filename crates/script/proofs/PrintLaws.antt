@@ -9,30 +9,30 @@ use borrow.Author.Tests.{ne-eqb}
 use Rattle.layout.specs.declared.Call.{Call}
 use Rattle.layout.specs.declared.Mark.{Mark}
 use Rattle.layout.specs.declared.Mark.the-variants.{DT, DS, DB, IT, DC, AC, TE, SU, PR, CO, EN, RE, RQ, RL, TR, RS, FR, ET, LV, TG, EI, XI, TI}
-use Rattle.kernel.specs.Calls.{addTask, addSemaphore, addBolt, addInterrupt}
-use Rattle.kernel.specs.Refusals.{declares, refusalOf}
-use Rattle.kernel.specs.Step.{refuse, finish, declared, orRefuse, carryOut, carryOn, stepRead, step}
-use Rattle.kernel.specs.Test.{valid}
-use Rattle.kernel.specs.declared.Kernel.{Kernel}
-use Rattle.kernel.specs.declared.Stepped.{Stepped}
-use Rattle.kernel.proofs.Passed.{passed}
-use Rattle.kernel.proofs.Cases.{opened-cases}
-use Rattle.kernel.proofs.Marks.{carried-number}
-use Rattle.kernel.proofs.Refused.{untested-refused}
-use Rattle.kernel.proofs.Invariants.{step-on}
+use Rattle.machine.specs.Calls.{addTask, addSemaphore, addBolt, addInterrupt}
+use Rattle.machine.specs.Refusals.{declares, refusalOf}
+use Rattle.machine.specs.Step.{refuse, finish, declared, orRefuse, carryOut, carryOn, stepRead, step}
+use Rattle.machine.specs.Test.{valid}
+use Rattle.machine.specs.declared.State.{State}
+use Rattle.machine.specs.declared.Stepped.{Stepped}
+use Rattle.machine.proofs.Passed.{passed}
+use Rattle.machine.proofs.Cases.{opened-cases}
+use Rattle.machine.proofs.Marks.{carried-number}
+use Rattle.machine.proofs.Refused.{untested-refused}
+use Rattle.machine.proofs.Invariants.{step-on}
 use Rattle.lock.proofs.Bools.{byBool}
 use Rattle.script.specs.Printed.{readDeclares, silent}
 
 -- The code's test for a line.
 abbrev pub says : Stepped → Bool
-says z = not (eqb (z .answer .number) 0) || z .kernel .begun
+says z = not (eqb (z .answer .number) 0) || z .state .begun
 
 begun-not : (b : Bool) → (b && true) ≡ false → b ≡ false
 begun-not true e = e
 begun-not false e = refl
 
 -- What is done is begun unless it declares; a declaration leaves that as it was.
-begun-out : (day : ℕ) (k : Kernel) (c : Call) (m : Mark) → (k .begun && declares m) ≡ false → says (carryOut day m k c) ≡ not (declares m)
+begun-out : (day : ℕ) (k : State) (c : Call) (m : Mark) → (k .begun && declares m) ≡ false → says (carryOut day m k c) ≡ not (declares m)
 unfolding carryOut declared finish declares addTask addSemaphore addBolt addInterrupt
 begun-out day k c DT e = begun-not (k .begun) e
 begun-out day k c DS e = begun-not (k .begun) e
@@ -59,7 +59,7 @@ begun-out day k c XI e = refl
 begun-out day k c TI e = refl
 
 -- A call or declaration that was read.
-says-read : (day : ℕ) (k : Kernel) (c : Call) → not (eqb (carryOn day k c .answer .number) 0 && declares (c .head .mark)) ≡ says (carryOn day k c)
+says-read : (day : ℕ) (k : State) (c : Call) → not (eqb (carryOn day k c .answer .number) 0 && declares (c .head .mark)) ≡ says (carryOn day k c)
 unfolding carryOn
 says-read day k c = go (refusalOf day k c) refl
   where
@@ -70,7 +70,7 @@ says-read day k c = go (refusalOf day k c) refl
     go (suc n) e = unfold refuse in rw (ne-eqb (suc n) 0 (λ q. omega arith))
 
 -- A line is printed for all but accepted declarations, by whether the kernel after the step has begun.
-pub says-line : (day : ℕ) (k : Kernel) (s : List ℕ) → not (silent s (step day k s .answer)) ≡ says (step day k s)
+pub says-line : (day : ℕ) (k : State) (s : List ℕ) → not (silent s (step day k s .answer)) ≡ says (step day k s)
 unfolding silent
 says-line day k s =
     byBool (valid day k)

@@ -7,10 +7,10 @@ use native.Mathlib.Omega.{arith}
 use lib.Dec.{ltb}
 use lib.ListN.{length, length-append}
 use borrow.Author.Tests.{ltb-true, ltb-false}
-use Rattle.kernel.specs.Log.{final, log}
-use Rattle.kernel.specs.Step.{step}
-use Rattle.kernel.specs.declared.Answer.{Answer}
-use Rattle.kernel.specs.declared.Kernel.{Kernel}
+use Rattle.machine.specs.Log.{final, log}
+use Rattle.machine.specs.Step.{step}
+use Rattle.machine.specs.declared.Answer.{Answer}
+use Rattle.machine.specs.declared.State.{State}
 use Rattle.lines.specs.Lines.{line, longestLine}
 use Rattle.lines.proofs.LineLaws.{no-line-longer}
 use Rattle.lock.proofs.Bools.{byBool, contra}
@@ -25,37 +25,37 @@ shown-le true a h = h
 shown-le false a h = omega arith
 
 -- A record's text is never longer than the longest line.
-pub printed-le : (day : ℕ) (k : Kernel) (r : List ℕ) → length (printed r (step day k r .answer)) ≤ longestLine
+pub printed-le : (day : ℕ) (k : State) (r : List ℕ) → length (printed r (step day k r .answer)) ≤ longestLine
 unfolding printed
 printed-le day k r = shown-le (not (silent r (step day k r .answer))) _ (no-line-longer _ (answer-in-types day k r))
 
-none-done : (day : ℕ) (k : Kernel) (room : ℕ) → Carries day k [] room (record { kernel = k; text = []; left = [] })
+none-done : (day : ℕ) (k : State) (room : ℕ) → Carries day k [] room (record { state = k; text = []; left = [] })
 unfolding lines log final
 none-done day k room =
     record {
       done = [];
       split = refl;
       text = refl;
-      kernel = refl;
+      state = refl;
       full = λ e. contra e refl;
       all = λ h. refl;
     }
 
-stop-done : (day : ℕ) (k : Kernel) (r : List ℕ) (rs : List (List ℕ)) (room : ℕ) → room < longestLine
-    → Carries day k (r ∷ rs) room (record { kernel = k; text = []; left = r ∷ rs })
+stop-done : (day : ℕ) (k : State) (r : List ℕ) (rs : List (List ℕ)) (room : ℕ) → room < longestLine
+    → Carries day k (r ∷ rs) room (record { state = k; text = []; left = r ∷ rs })
 unfolding lines log final
 stop-done day k r rs room h =
     record {
       done = [];
       split = refl;
       text = refl;
-      kernel = refl;
+      state = refl;
       full = λ e. omega arith;
       all = λ l. absurd (omega arith);
     }
 
-more-done : (day : ℕ) (k : Kernel) (r : List ℕ) (rs : List (List ℕ)) (room : ℕ) (c : Carried) → longestLine ≤ room
-    → Carries day (step day k r .kernel) rs (room - length (printed r (step day k r .answer))) c
+more-done : (day : ℕ) (k : State) (r : List ℕ) (rs : List (List ℕ)) (room : ℕ) (c : Carried) → longestLine ≤ room
+    → Carries day (step day k r .state) rs (room - length (printed r (step day k r .answer))) c
     → Carries day k (r ∷ rs) room (afterText (printed r (step day k r .answer)) c)
 unfolding lines log final
 more-done day k r rs room c h g =
@@ -64,7 +64,7 @@ more-done day k r rs room c h g =
       done = r ∷ g .done;
       split = ap (λ (l : List (List ℕ)). r ∷ l) (g .split);
       text = ap (λ (l : List ℕ). t ++ l) (g .text);
-      kernel = g .kernel;
+      state = g .state;
       full = λ e. omega (arith, g .full e, length-append t (c .text));
       all = λ l. g .all (omega (arith, printed-le day k r));
     }
@@ -76,4 +76,4 @@ scripts-carried day k (r ∷ rs) room =
     (λ e. let h = ltb-true room longestLine e in rw (carried-stop day k r rs room h) (stop-done day k r rs room h))
     (λ e.
     let h = ltb-false room longestLine e in
-    rw (carried-go day k r rs room h) (more-done day k r rs room _ h (scripts-carried day (step day k r .kernel) rs _)))
+    rw (carried-go day k r rs room h) (more-done day k r rs room _ h (scripts-carried day (step day k r .state) rs _)))

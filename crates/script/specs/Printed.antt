@@ -6,9 +6,9 @@ use lib.Dec.{eqb}
 use Rattle.record.specs.Reading.{opened}
 use Rattle.record.specs.declared.Read.{Read}
 use Rattle.record.specs.declared.Read.the-variants.{Refused, Accepted}
-use Rattle.kernel.specs.Refusals.{declares}
-use Rattle.kernel.specs.Log.{Entry}
-use Rattle.kernel.specs.declared.Answer.{Answer}
+use Rattle.machine.specs.Refusals.{declares}
+use Rattle.machine.specs.Log.{Entry}
+use Rattle.machine.specs.declared.Answer.{Answer}
 use Rattle.lines.specs.Lines.{line}
 
 -- What was opened is a declaration.

@@ -4,30 +4,30 @@ ghost use Prim.Native.Nat.{_+_, _≤_, min};
 ghost use lib.ListN.{length};
 ghost use Rattle.calendar.specs.Limits.{day};
 ghost use Rattle.layout.specs.Fields.{recordLength};
-ghost use Rattle.kernel.specs.Step.{plainAnswer};
+ghost use Rattle.machine.specs.Step.{plainAnswer};
 ghost use Rattle.lines.specs.Buffers.{Wrote};
 ghost use Rattle.lines.specs.Lines.{longestLine};
 ghost use Rattle.script.specs.Printed.{shown};
 ghost use Rattle.script.specs.Script.{Runs};
 use calendar::Duration;
 use calendar::LAST_INSTANT;
-use engine::calls::step_on;
-use engine::quiet::is_tick;
-use engine::quiet::quiet_before;
-use kernel::Answer;
-use kernel::Running;
+use calls::quiet::is_tick;
+use calls::quiet::quiet_before;
+use calls::step::step_on;
+use kernel::Kernel;
 use lines::line_at;
-use rack::Rack;
+use machine::Answer;
+use machine::Running;
 use survey::look::survey;
 
 pub const RECORD_LENGTH: usize = 24;
 
 pub const LONGEST_LINE: usize = 63;
 
-// What became of a script: the rack after it, how much of it was read, and how much text was written. It is full
+// What became of a script: the kernel after it, how much of it was read, and how much text was written. It is full
 // where the room didn't reach for the next line.
 pub struct Ran {
-    pub rack: Rack,
+    pub kernel: Kernel,
     pub read: usize,
     pub written: usize,
     pub full: bool,
@@ -73,10 +73,10 @@ fn line_if(show: bool, a: Answer, out: &mut [u8], at: usize) -> usize
 }
 
 // The script s, with as many lines as there is room for in out. On a quiet tick only the instant moves.
-pub fn run(rack: Rack, s: &[u8], out: &mut [u8]) -> Ran
-    ensures { λ r. ⌜ Runs day (rack .kernel) (now (s .entry)) (now (out .entry)) (now (out .exit)) r ⌝ }
+pub fn run(kernel: Kernel, s: &[u8], out: &mut [u8]) -> Ran
+    ensures { λ r. ⌜ Runs day (kernel .state) (now (s .entry)) (now (out .entry)) (now (out .exit)) r ⌝ }
 {
-    let mut k = rack.kernel;
+    let mut k = kernel.state;
     let v = survey(k);
     let mut r = v.runner;
     let mut quiet: u64 = 0;
@@ -104,13 +104,13 @@ pub fn run(rack: Rack, s: &[u8], out: &mut [u8]) -> Ran
         }
         let z = step_on(k, rec, r);
         let a = z.answer;
-        k = z.kernel;
+        k = z.state;
         r = a.running;
         quiet = 0;
         fill = line_if((a.number != 0) | k.begun, a, out, fill);
     }
     Ran {
-        rack: Rack { kernel: k },
+        kernel: Kernel { state: k },
         read: at,
         written: fill,
         full: at < s.len(),

@@ -7,16 +7,16 @@ use native.Mathlib.Omega.{arith}
 use Rattle.lock.specs.Locks.{waiting}
 use Rattle.lock.proofs.Bools.{byEq, contra}
 use Rattle.task.specs.declared.Task.{Task}
-use Rattle.kernel.specs.Sets.{put}
-use Rattle.kernel.specs.State.{taskAt}
-use Rattle.kernel.specs.Granting.{servable}
-use Rattle.kernel.specs.Running.{someone}
-use Rattle.kernel.specs.Serving.{Served, nextServed, grantTo, serve}
-use Rattle.kernel.specs.declared.Kernel.{Kernel}
-use Rattle.kernel.specs.declared.Running.{Running}
-use Rattle.kernel.specs.declared.Running.the-variants.{Idle, Runs}
-use Rattle.kernel.proofs.Below.{mostUrgent-at, mostUrgent-none}
-use Rattle.kernel.proofs.Serving.{waiters, waiters-le, grant-fewer}
+use Rattle.machine.specs.Sets.{put}
+use Rattle.machine.specs.State.{taskAt}
+use Rattle.machine.specs.Granting.{servable}
+use Rattle.machine.specs.Running.{someone}
+use Rattle.machine.specs.Serving.{Served, nextServed, grantTo, serve}
+use Rattle.machine.specs.declared.State.{State}
+use Rattle.machine.specs.declared.Running.{Running}
+use Rattle.machine.specs.declared.Running.the-variants.{Idle, Runs}
+use Rattle.machine.proofs.Below.{mostUrgent-at, mostUrgent-none}
+use Rattle.machine.proofs.Serving.{waiters, waiters-le, grant-fewer}
 use Rattle.serving.specs.Ends.{served, withServed, servedOf}
 use Rattle.serving.proofs.WaitLaws.{servable-idle}
 
@@ -50,11 +50,11 @@ serve-more n (suc turns) p w = go (λ q. serve-more n turns q) (nextServed n p) 
 
 -- ---- a kernel's turns
 
-pub served-idle : (k : Kernel) (g : ℕ) → nextServed (k .counts .tasks) (served k 0) ≡ Idle → servedOf k g ≡ served k g
+pub served-idle : (k : State) (g : ℕ) → nextServed (k .counts .tasks) (served k 0) ≡ Idle → servedOf k g ≡ served k g
 unfolding servedOf
 served-idle k g e = serve-idle (k .counts .tasks) (k .counts .tasks) (served k g) e
 
-pub served-grant : (k : Kernel) (g j : ℕ) → nextServed (k .counts .tasks) (served k 0) ≡ Runs j → servedOf (withServed (grantTo j (served k 0)) k) (put j g) ≡ servedOf k g
+pub served-grant : (k : State) (g j : ℕ) → nextServed (k .counts .tasks) (served k 0) ≡ Runs j → servedOf (withServed (grantTo j (served k 0)) k) (put j g) ≡ servedOf k g
 unfolding servedOf grantTo
 served-grant k g j e =
     let n = k .counts .tasks in
@@ -70,7 +70,7 @@ pub none-more : (n : ℕ) (ts : List Task) → NoneWaits n ts → waiting (taskA
 none-more n ts f e j l = byEq j n (λ q. rw q e) (λ q. f j (omega arith))
 
 -- Nobody is served.
-pub next-none : (k : Kernel) → NoneWaits (k .counts .tasks) (k .tasks) → nextServed (k .counts .tasks) (served k 0) ≡ Idle
+pub next-none : (k : State) → NoneWaits (k .counts .tasks) (k .tasks) → nextServed (k .counts .tasks) (served k 0) ≡ Idle
 next-none k f = mostUrgent-none (k .counts .tasks) _ _ (λ i l. servable-idle (k .counts .tasks) (k .tasks) (k .locks) i (f i l))
 
 pub not-someone : (r : Running) → someone r ≡ false → r ≡ Idle

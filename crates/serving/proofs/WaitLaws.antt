@@ -13,15 +13,15 @@ use Rattle.lock.proofs.Bools.{byEq, both, and-both, or-then}
 use Rattle.lock.proofs.Lists.{every-more}
 use Rattle.task.specs.State.{wanted}
 use Rattle.task.specs.declared.Task.{Task}
-use Rattle.kernel.specs.State.{mostTasks, taskAt, countOf}
-use Rattle.kernel.specs.Granting.{couldBeGranted, servable}
-use Rattle.kernel.specs.Serving.{grantTo}
-use Rattle.kernel.specs.Test.{between, allBelow, countsOk, waitOk}
-use Rattle.kernel.specs.declared.Counts.{Counts}
-use Rattle.kernel.specs.declared.Kernel.{Kernel}
-use Rattle.kernel.proofs.Below.{all-at, all-from}
-use Rattle.kernel.proofs.Passed.{counts-fit, count-fits}
-use Rattle.kernel.proofs.Serving.{grant-at, grant-other}
+use Rattle.machine.specs.State.{mostTasks, taskAt, countOf}
+use Rattle.machine.specs.Granting.{couldBeGranted, servable}
+use Rattle.machine.specs.Serving.{grantTo}
+use Rattle.machine.specs.Test.{between, allBelow, countsOk, waitOk}
+use Rattle.machine.specs.declared.Counts.{Counts}
+use Rattle.machine.specs.declared.State.{State}
+use Rattle.machine.proofs.Below.{all-at, all-from}
+use Rattle.machine.proofs.Passed.{counts-fit, count-fits}
+use Rattle.machine.proofs.Serving.{grant-at, grant-other}
 use Rattle.survey.specs.Looks.{waitsOk}
 use Rattle.serving.specs.Ends.{served, withServed}
 
@@ -41,7 +41,7 @@ list-fits n f t e w =
       below = every-more (countOf n (t .wait)) mostLocks (wanted t) (count-fits n (counts-fit n f) (t .wait)) (a .1);
     }
 
-module _ (k : Kernel) (h : waitsOk k ≡ true) where
+module _ (k : State) (h : waitsOk k ≡ true) where
   unfold-waits : (countsOk (k .counts) ≡ true) × (allBelow (k .counts .tasks) (λ i. waitOk (k .counts) (taskAt (k .tasks) i)) ≡ true)
   unfolding waitsOk
   unfold-waits = both _ _ h

@@ -1,23 +1,23 @@
 -- Names for contracts: what serving sees of a kernel, and how a call ends.
 use Prim.Native.Nat.{ℕ}
-use Rattle.kernel.specs.State.{withState}
-use Rattle.kernel.specs.Work.{Work}
-use Rattle.kernel.specs.Serving.{Served, serve}
-use Rattle.kernel.specs.declared.Kernel.{Kernel}
+use Rattle.machine.specs.State.{withState}
+use Rattle.machine.specs.Work.{Work}
+use Rattle.machine.specs.Serving.{Served, serve}
+use Rattle.machine.specs.declared.State.{State}
 use Rattle.serving.specs.declared.ends.Marks.{Marks}
 
 -- What serving sees of a kernel, and the kernel that it leaves.
-abbrev pub served : Kernel → ℕ → Served
+abbrev pub served : State → ℕ → Served
 served k g = record { tasks = k .tasks; locks = k .locks; granted = g }
 
-abbrev pub withServed : Served → Kernel → Kernel
+abbrev pub withServed : Served → State → State
 withServed p k = withState (p .tasks) (p .locks) (k .enabled) k
 
-unfoldable pub servedOf : Kernel → ℕ → Served
+unfoldable pub servedOf : State → ℕ → Served
 servedOf k g = serve (k .counts .tasks) (k .counts .tasks) (served k g)
 
 -- The work that a kernel has had done, with the sets that it marked.
-abbrev pub workHere : Kernel → Marks → Work
+abbrev pub workHere : State → Marks → Work
 workHere k m =
     record {
       now = k .now;

@@ -2,18 +2,18 @@
 ghost use mathlib.Core.Path.{_≡_};
 ghost use mathlib.Core.Bool.{true};
 ghost use Prim.Native.Nat.{_<_};
-ghost use Rattle.kernel.specs.Granting.{servable};
-ghost use Rattle.kernel.specs.Serving.{nextServed, grantTo};
-ghost use Rattle.kernel.specs.Running.{someone};
-ghost use Rattle.kernel.specs.Step.{finish};
-ghost use Rattle.kernel.specs.Work.{noWork};
+ghost use Rattle.machine.specs.Granting.{servable};
+ghost use Rattle.machine.specs.Serving.{nextServed, grantTo};
+ghost use Rattle.machine.specs.Running.{someone};
+ghost use Rattle.machine.specs.Step.{finish};
+ghost use Rattle.machine.specs.Work.{noWork};
 ghost use Rattle.survey.specs.Looks.{waitsOk};
 ghost use Rattle.serving.specs.Ends.{served, withServed, servedOf, workHere};
-use kernel::Answer;
-use kernel::Kernel;
-use kernel::Running;
-use kernel::Stepped;
 use lock::is_waiting;
+use machine::Answer;
+use machine::Running;
+use machine::State;
+use machine::Stepped;
 use survey::scan::NOBODY;
 use survey::scan::can_run;
 use survey::scan::nearest;
@@ -34,7 +34,7 @@ pub struct Marks {
 
 // A kernel whose waiting tasks have been served, and who was granted.
 pub struct Serviced {
-    pub kernel: Kernel,
+    pub state: State,
     pub granted: u32,
 }
 
@@ -50,7 +50,7 @@ pub fn is_someone(r: Running) -> bool
 
 // The most urgent task that waits on a list that could be granted, held or not. A task is given up at the first
 // number of its list that isn't free.
-fn next_served(k: Kernel) -> Running
+fn next_served(k: State) -> Running
     requires { ⌜ waitsOk k ≡ true ⌝ }
     ensures { λ r. ⌜ r ≡ nextServed (k .counts .tasks) (served k 0) ⌝ }
 {
@@ -83,7 +83,7 @@ fn next_served(k: Kernel) -> Running
 }
 
 // Task i is granted the whole list that it waits on.
-fn grant_to(mut k: Kernel, i: usize) -> Kernel
+fn grant_to(mut k: State, i: usize) -> State
     requires { ⌜ waitsOk k ≡ true ⌝ }
     requires { ⌜ i < k .counts .tasks ⌝ }
     requires { ⌜ servable (k .counts .tasks) (k .tasks) (k .locks) i ≡ true ⌝ }
@@ -102,9 +102,9 @@ fn grant_to(mut k: Kernel, i: usize) -> Kernel
 }
 
 // While there is one to be served, the next is granted.
-fn serve(k: Kernel, granted: u32) -> Serviced
+fn serve(k: State, granted: u32) -> Serviced
     requires { ⌜ waitsOk k ≡ true ⌝ }
-    ensures { λ r. ⌜ (r .kernel ≡ withServed (servedOf k granted) k) × (r .granted ≡ servedOf k granted .granted) ⌝ }
+    ensures { λ r. ⌜ (r .state ≡ withServed (servedOf k granted) k) × (r .granted ≡ servedOf k granted .granted) ⌝ }
 {
     let mut now = k;
     let mut g = granted;
@@ -112,7 +112,7 @@ fn serve(k: Kernel, granted: u32) -> Serviced
         let next = next_served(now);
         let Running::Runs(i) = next else {
             return Serviced {
-                kernel: now,
+                state: now,
                 granted: g,
             };
         };
@@ -123,17 +123,17 @@ fn serve(k: Kernel, granted: u32) -> Serviced
 }
 
 // The end of a call after which some task waits: it may have to be served.
-fn finished_serving(k: Kernel, m: Marks) -> Stepped
+fn finished_serving(k: State, m: Marks) -> Stepped
     requires { ⌜ waitsOk k ≡ true ⌝ }
     ensures { λ r. ⌜ r ≡ finish k (workHere k m) ⌝ }
 {
     let s = serve(k, m.granted);
     let granted = s.granted;
-    let mut next = s.kernel;
+    let mut next = s.state;
     next.begun = true;
     let runner = running(next);
     Stepped {
-        kernel: next,
+        state: next,
         answer: Answer {
             number: 0,
             running: runner,
@@ -148,7 +148,7 @@ fn finished_serving(k: Kernel, m: Marks) -> Stepped
 
 // Every accepted call but a tick ends so. The kernel has had its work done, and the marks say what was done. Where
 // nobody waits or none that waits could be granted, there is nobody to serve.
-pub fn finished(mut k: Kernel, m: Marks) -> Stepped
+pub fn finished(mut k: State, m: Marks) -> Stepped
     requires { ⌜ waitsOk k ≡ true ⌝ }
     ensures { λ r. ⌜ r ≡ finish k (workHere k m) ⌝ }
 {
@@ -171,7 +171,7 @@ pub fn finished(mut k: Kernel, m: Marks) -> Stepped
     }
     k.begun = true;
     Stepped {
-        kernel: k,
+        state: k,
         answer: Answer {
             number: 0,
             running: task_of(least),
@@ -198,7 +198,7 @@ pub fn only_granted(granted: u32) -> Marks
 }
 
 // A call without effect ends.
-pub fn done(k: Kernel) -> Stepped
+pub fn done(k: State) -> Stepped
     requires { ⌜ waitsOk k ≡ true ⌝ }
     ensures { λ s. ⌜ s ≡ finish k (noWork k) ⌝ }
 {

@@ -2,9 +2,9 @@
 // length, and a 0 before each script; printed are an empty line for each script, and the lines of its records.
 ghost use mathlib.Core.Path.{_≡_};
 ghost use Prim.Native.Nat.{_≤_};
-use kernel::Answer;
+use kernel::Kernel;
 use lines::line_at;
-use rack::Rack;
+use machine::Answer;
 
 fn print_line(a: Answer) {
     let mut out = [0u8; 64];
@@ -23,7 +23,7 @@ fn wide(b: u8) -> usize
 fn main() {
     let mut buf = [0u8; 256];
     let mut one = [0u8; 1];
-    let mut rack = Rack::fresh();
+    let mut kernel = Kernel::fresh();
     let mut turns = u64::MAX;
     while turns > 0 {
         turns -= 1;
@@ -32,15 +32,15 @@ fn main() {
         }
         let len = wide(one[0]);
         if len == 0 {
-            rack = Rack::fresh();
+            kernel = Kernel::fresh();
             io::write_all(1, b"\n");
             continue;
         }
         let n = io::read_full(0, &mut buf[..len]);
-        let reply = rack.step(&buf[..n]);
+        let reply = kernel.step(&buf[..n]);
         let answer = reply.answer;
-        rack = reply.rack;
-        if (answer.number != 0) | rack.kernel.begun {
+        kernel = reply.kernel;
+        if (answer.number != 0) | kernel.state.begun {
             print_line(answer);
         }
     }

@@ -16,14 +16,14 @@ use Rattle.lock.proofs.Bools.{contra}
 use Rattle.task.specs.State.{noTask}
 use Rattle.task.specs.declared.Task.{Task}
 use Rattle.task.proofs.Task as TaskT
-use Rattle.kernel.specs.State.{mostTasks, taskAt}
-use Rattle.kernel.specs.declared.Kernel.{Kernel}
-use Rattle.kernel.proofs.Kernel as KernelT
+use Rattle.machine.specs.State.{mostTasks, taskAt}
+use Rattle.machine.specs.declared.State.{State}
+use Rattle.machine.proofs.State as KernelT
 
-abbrev pub Good : Kernel → Type 0
+abbrev pub Good : State → Type 0
 Good k = (v : Valss (shape KernelT.the-type .fields)) × shadow (owns (shape KernelT.the-type .fields) (KernelT.the-type .to k) v)
 
-pub tasks-long : (k : Kernel) → Good k → length (k .tasks) ≡ mostTasks
+pub tasks-long : (k : State) → Good k → length (k .tasks) ≡ mostTasks
 tasks-long k g = sym (length-map (k .tasks) _) ∙ g .1 .0 .1 .0 .1
 
 -- What holds of each task that is owned, and of none, holds at every place.
@@ -37,10 +37,10 @@ each-task Q f z (t ∷ ts) [] p i = absurd p
 each-task Q f z (t ∷ ts) (u ∷ us) p zero = f t u (p .0)
 each-task Q f z (t ∷ ts) (u ∷ us) p (suc i) = each-task Q f z ts us (p .1) i
 
-pub current-fits : (k : Kernel) → Good k → (i : ℕ) → taskAt (k .tasks) i .current < 256
+pub current-fits : (k : State) → Good k → (i : ℕ) → taskAt (k .tasks) i .current < 256
 current-fits k g i = each-task (λ t. t .current < 256) (λ t u p. p .1 .1 .1 .0 .1) (lit< tt) (k .tasks) (g .1 .0 .0) (g .1 .0 .1 .1) i
 
-pub list-long : (k : Kernel) → Good k → (i : ℕ) → waiting (taskAt (k .tasks) i .wait) ≡ true → length (taskAt (k .tasks) i .list) ≡ 4
+pub list-long : (k : State) → Good k → (i : ℕ) → waiting (taskAt (k .tasks) i .wait) ≡ true → length (taskAt (k .tasks) i .list) ≡ 4
 list-long k g i =
     each-task (λ t. waiting (t .wait) ≡ true → length (t .list) ≡ 4)
     (λ t u p e. sym (length-map (t .list) _) ∙ p .1 .1 .1 .1 .1 .1 .1 .1 .0 .1 .0 .1)

@@ -12,12 +12,12 @@ use borrow.Author.Tests.{lt-ltb, le-ltb, lt-leb, leb-true, leb-false}
 use Rattle.lock.proofs.Bools.{byBool, byEq}
 use Rattle.task.specs.State.{noTask, runnable}
 use Rattle.task.specs.declared.Task.{Task}
-use Rattle.kernel.specs.State.{mostTasks, taskAt}
-use Rattle.kernel.specs.Running.{urgency, better, mostUrgent, runningOf}
-use Rattle.kernel.specs.declared.Kernel.{Kernel}
-use Rattle.kernel.specs.declared.Running.{Running}
-use Rattle.kernel.specs.declared.Running.the-variants.{Idle, Runs}
-use Rattle.kernel.proofs.Below.{mostUrgent-at}
+use Rattle.machine.specs.State.{mostTasks, taskAt}
+use Rattle.machine.specs.Running.{urgency, better, mostUrgent, runningOf}
+use Rattle.machine.specs.declared.State.{State}
+use Rattle.machine.specs.declared.Running.{Running}
+use Rattle.machine.specs.declared.Running.the-variants.{Idle, Runs}
+use Rattle.machine.proofs.Below.{mostUrgent-at}
 use Rattle.survey.specs.Looks.{nobody, taskOf}
 use Rattle.survey.proofs.KernelFacts.{Good, tasks-long, current-fits}
 
@@ -35,7 +35,7 @@ pub record Bounded (ts : List Task) : Type 0 where
   pub long : length ts ≡ mostTasks
   pub range : (i : ℕ) → taskAt ts i .current < 256
 
-pub bounds : (k : Kernel) → Good k → Bounded (k .tasks)
+pub bounds : (k : State) → Good k → Bounded (k .tasks)
 bounds k g = record { long = tasks-long k g; range = current-fits k g }
 
 urgency-bound : (ts : List Task) → Bounded ts → (i : ℕ) → i < mostTasks → urgency ts i < nobody

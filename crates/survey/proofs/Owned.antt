@@ -19,12 +19,12 @@ use Rattle.record.specs.Refusals.{mostValue}
 use Rattle.lock.specs.Locks.{emptyBolt, valueAt, boltAt}
 use Rattle.lock.specs.declared.Bolt.{Bolt}
 use Rattle.lock.proofs.Bolt as BoltT
-use Rattle.kernel.specs.Test.{allBelow}
-use Rattle.kernel.specs.declared.Kernel.{Kernel}
-use Rattle.kernel.proofs.Kernel as KernelT
-use Rattle.kernel.proofs.Below.{all-from}
+use Rattle.machine.specs.Test.{allBelow}
+use Rattle.machine.specs.declared.State.{State}
+use Rattle.machine.proofs.State as KernelT
+use Rattle.machine.proofs.Below.{all-from}
 
-abbrev pub Owned : Kernel → Type 0
+abbrev pub Owned : State → Type 0
 Owned k = (v : Valss (shape KernelT.the-type .fields)) × shadow (owns (shape KernelT.the-type .fields) (KernelT.the-type .to k) v)
 
 -- The readers of each bolt of a table.
@@ -37,7 +37,7 @@ readers-fit (b ∷ bs) [] p i = absurd p
 readers-fit (b ∷ bs) (u ∷ us) p zero = p .0 .1 .1 .1 .0 .1
 readers-fit (b ∷ bs) (u ∷ us) p (suc i) = readers-fit bs us (p .1) i
 
-module _ (k : Kernel) (g : Owned k) where
+module _ (k : State) (g : Owned k) where
   value-fits : (i : ℕ) → valueAt (k .locks) i < 65536
   value-fits i =
       let l = g .1 .1 .0 .1 .1 .0 in

@@ -12,18 +12,18 @@ use Rattle.calendar.specs.declared.Instant.{Instant}
 use Rattle.lock.proofs.Bools.{byBool}
 use Rattle.task.specs.Schedules.{falls}
 use Rattle.task.specs.Turns.{delayEnds}
-use Rattle.kernel.specs.State.{mostTasks, taskAt}
-use Rattle.kernel.specs.Quiet.{comes}
-use Rattle.kernel.specs.Running.{urgency, runningOf, runner}
-use Rattle.kernel.specs.Test.{allBelow, valid}
-use Rattle.kernel.specs.declared.Kernel.{Kernel}
-use Rattle.kernel.specs.declared.Running.{Running}
+use Rattle.machine.specs.State.{mostTasks, taskAt}
+use Rattle.machine.specs.Quiet.{comes}
+use Rattle.machine.specs.Running.{urgency, runningOf, runner}
+use Rattle.machine.specs.Test.{allBelow, valid}
+use Rattle.machine.specs.declared.State.{State}
+use Rattle.machine.specs.declared.Running.{Running}
 use Rattle.survey.specs.Looks.{nobody, taskOf, stirsNext, unfit, surveyed}
 use Rattle.survey.proofs.LeastLaws.{leastOf, canRun, Bounded, least-none, least-next, least-found}
 use Rattle.survey.proofs.TestLaws.{fitAt, Upto, upto-none, upto-passes}
 
 -- What the scan knows of the tasks below i: all are fit, whether one comes at x, and the least urgency of those that can run.
-pub record Looked (day : ℕ) (k : Kernel) (x : Instant) (i : ℕ) (stirs : Bool) (least : ℕ) : Type 0 where
+pub record Looked (day : ℕ) (k : State) (x : Instant) (i : ℕ) (stirs : Bool) (least : ℕ) : Type 0 where
   pub tasks : Upto (fitAt day k) (k .counts .tasks) i
   pub comings : stirs ≡ not (allBelow i (λ j. not (comes x (taskAt (k .tasks) j))))
   pub nearest : least ≡ leastOf i (canRun (k .tasks)) (k .tasks)
@@ -35,7 +35,7 @@ stirs-more p q r = q ∙ rw (p, r)
 pub stirs-same : {a b c d : Bool} → b ≡ a → c ≡ b → d ≡ false → c ≡ (a || d)
 stirs-same {a} p q r = q ∙ p ∙ rw (r, or-false a)
 
-module _ (day : ℕ) (k : Kernel) (x : Instant) where
+module _ (day : ℕ) (k : State) (x : Instant) where
   pub looked-none : Looked day k x 0 false nobody
   unfolding allBelow
   looked-none = record { tasks = upto-none _ _; comings = refl; nearest = sym (least-none _ _) }
@@ -75,7 +75,7 @@ module _ (day : ℕ) (k : Kernel) (x : Instant) where
 
 -- ---- the whole
 
-module _ (day : ℕ) (k : Kernel) where
+module _ (day : ℕ) (k : State) where
   pub unfit-is : false ≡ valid day k → unfit ≡ surveyed day k
   unfolding surveyed
   unfit-is e = rw (← e)

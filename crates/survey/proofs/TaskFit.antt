@@ -21,8 +21,8 @@ use Rattle.task.specs.declared.Plan.{Plan}
 use Rattle.task.specs.declared.Plan.the-variants.{None, Clock, Armed, Triggered}
 use Rattle.task.specs.declared.Schedule.{Schedule}
 use Rattle.task.specs.declared.Task.{Task}
-use Rattle.kernel.specs.Test.{isPriority, keptOk, holdOk, termsOk, listenerOk, nextOk, scheduleOk, taskOk}
-use Rattle.kernel.specs.declared.Counts.{Counts}
+use Rattle.machine.specs.Test.{isPriority, keptOk, holdOk, termsOk, listenerOk, nextOk, scheduleOk, taskOk}
+use Rattle.machine.specs.declared.Counts.{Counts}
 use Rattle.survey.specs.Looks.{planned, atEase, waitSettled, busyOk}
 
 -- It passes its test and doesn't wait on a list that could be granted.

@@ -19,13 +19,13 @@ use Rattle.lock.proofs.Bools.{byBool, contra, both, and-both}
 use Rattle.lock.proofs.Lists.{every-more}
 use Rattle.task.specs.State.{wanted}
 use Rattle.task.specs.declared.Task.{Task}
-use Rattle.kernel.specs.State.{mostTasks, taskAt, countOf}
-use Rattle.kernel.specs.Granting.{couldBeGranted}
-use Rattle.kernel.specs.Test.{between, isPriority, keptOk, holdOk, restOk, waitOk, scheduleOk, taskOk, allBelow, countsOk, nobodyServable, valid}
-use Rattle.kernel.specs.declared.Counts.{Counts}
-use Rattle.kernel.specs.declared.Kernel.{Kernel}
-use Rattle.kernel.proofs.Below.{all-at}
-use Rattle.kernel.proofs.Passed.{counts-fit, count-fits}
+use Rattle.machine.specs.State.{mostTasks, taskAt, countOf}
+use Rattle.machine.specs.Granting.{couldBeGranted}
+use Rattle.machine.specs.Test.{between, isPriority, keptOk, holdOk, restOk, waitOk, scheduleOk, taskOk, allBelow, countsOk, nobodyServable, valid}
+use Rattle.machine.specs.declared.Counts.{Counts}
+use Rattle.machine.specs.declared.State.{State}
+use Rattle.machine.proofs.Below.{all-at}
+use Rattle.machine.proofs.Passed.{counts-fit, count-fits}
 use Rattle.survey.specs.Looks.{waitSettled}
 use Rattle.survey.proofs.Owned.{Owned, values-small, readers-small}
 use Rattle.survey.proofs.TaskFit.{fit}
@@ -134,11 +134,11 @@ wait-of day n t e =
     let r = isPriority (t .declared) && isPriority (t .current) && keptOk (t .kept) && holdOk (t .hold) && restOk t in
     both r (waitOk n t) (both (r && waitOk n t) s e .0) .1
 
-abbrev pub fitAt : ℕ → Kernel → ℕ → Bool
+abbrev pub fitAt : ℕ → State → ℕ → Bool
 fitAt day k i = fit day (k .counts) (k .locks) (taskAt (k .tasks) i)
 
 -- The test of a kernel by its parts: o and c are what the tests of clock and counts said.
-module _ (day : ℕ) (k : Kernel) {o c : Bool} (clock : o ≡ isTimeOfDay day (k .clock)) (counts : c ≡ countsOk (k .counts)) where
+module _ (day : ℕ) (k : State) {o c : Bool} (clock : o ≡ isTimeOfDay day (k .clock)) (counts : c ≡ countsOk (k .counts)) where
   pub out-of-range : not (leb (k .now .0) lastInstant && o && c) ≡ true → false ≡ valid day k
   unfolding valid
   out-of-range e = rw (← clock, ← counts, not-true (leb (k .now .0) lastInstant && o && c) e)

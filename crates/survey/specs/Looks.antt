@@ -12,15 +12,15 @@ use Rattle.task.specs.declared.Hold.{Hold}
 use Rattle.task.specs.declared.Plan.{Plan}
 use Rattle.task.specs.declared.Plan.the-variants.{None, Clock, Armed, Triggered}
 use Rattle.task.specs.declared.Task.{Task}
-use Rattle.kernel.specs.Sets.{put}
-use Rattle.kernel.specs.State.{mostTasks, taskAt}
-use Rattle.kernel.specs.Quiet.{comes}
-use Rattle.kernel.specs.Running.{runner}
-use Rattle.kernel.specs.Test.{allBelow, countsOk, holdOk, waitOk, valid}
-use Rattle.kernel.specs.declared.Counts.{Counts}
-use Rattle.kernel.specs.declared.Kernel.{Kernel}
-use Rattle.kernel.specs.declared.Running.{Running}
-use Rattle.kernel.specs.declared.Running.the-variants.{Idle, Runs}
+use Rattle.machine.specs.Sets.{put}
+use Rattle.machine.specs.State.{mostTasks, taskAt}
+use Rattle.machine.specs.Quiet.{comes}
+use Rattle.machine.specs.Running.{runner}
+use Rattle.machine.specs.Test.{allBelow, countsOk, holdOk, waitOk, valid}
+use Rattle.machine.specs.declared.Counts.{Counts}
+use Rattle.machine.specs.declared.State.{State}
+use Rattle.machine.specs.declared.Running.{Running}
+use Rattle.machine.specs.declared.Running.the-variants.{Idle, Runs}
 use Rattle.survey.specs.declared.Survey.{Survey}
 
 -- More than the urgency of any task: 32 * 255 + 31 is the largest.
@@ -32,7 +32,7 @@ unfoldable pub taskOf : ℕ → Running
 taskOf u = cond (leb nobody u) Idle (Runs (u % mostTasks))
 
 -- The counts are in range, and each wait's list names one to four declared numbers, none twice.
-unfoldable pub waitsOk : Kernel → Bool
+unfoldable pub waitsOk : State → Bool
 waitsOk k = countsOk (k .counts) && allBelow (k .counts .tasks) (λ i. waitOk (k .counts) (taskAt (k .tasks) i))
 
 -- The set n, and task i if b.
@@ -64,7 +64,7 @@ busyOk n r t = t .alive && holdOk (t .hold) && waitSettled n r t
 -- ---- all of it
 
 -- At the next tick some declared task's schedule falls due or its delay ends.
-unfoldable pub stirsNext : Kernel → Bool
+unfoldable pub stirsNext : State → Bool
 stirsNext k =
     not (allBelow (k .counts .tasks) (λ i. not (comes (plus (k .now) (duration tick)) (taskAt (k .tasks) i))))
 
@@ -73,7 +73,7 @@ abbrev pub unfit : Survey
 unfit = record { ok = false; stirs = false; runner = Idle }
 
 -- What one look at a kernel tells.
-unfoldable pub surveyed : ℕ → Kernel → Survey
+unfoldable pub surveyed : ℕ → State → Survey
 surveyed day k =
     cond (valid day k)
     (record { ok = true; stirs = stirsNext k; runner = runner k })

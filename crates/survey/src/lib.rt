@@ -4,7 +4,7 @@ pub mod look;
 pub mod scan;
 pub mod sets;
 
-use kernel::Running;
+use machine::Running;
 
 // Whether the kernel passes the test; if so, whether the next tick stirs a task, and the running task.
 pub struct Survey {

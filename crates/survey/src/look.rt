@@ -1,7 +1,7 @@
 // One look at a kernel.
 ghost use mathlib.Core.Path.{_≡_};
 ghost use Rattle.calendar.specs.Limits.{day};
-ghost use Rattle.kernel.specs.Test.{valid};
+ghost use Rattle.machine.specs.Test.{valid};
 ghost use Rattle.survey.specs.Looks.{unfit, surveyed};
 use crate::Survey;
 use crate::check::are_counts_ok;
@@ -18,8 +18,8 @@ use crate::scan::task_of;
 use calendar::Duration;
 use calendar::LAST_INSTANT;
 use calendar::is_time_of_day;
-use kernel::Kernel;
-use kernel::Running;
+use machine::Running;
+use machine::State;
 
 // The survey of a kernel that fails the test.
 fn unfit() -> Survey
@@ -33,7 +33,7 @@ fn unfit() -> Survey
 }
 
 // Each part of a turn copies the task anew: of a copy that is only read, the machine loads just the fields in use.
-pub fn survey(k: Kernel) -> Survey
+pub fn survey(k: State) -> Survey
     ensures { λ r. ⌜ r ≡ surveyed day k ⌝ }
 {
     let counts = k.counts;
@@ -96,7 +96,7 @@ pub fn survey(k: Kernel) -> Survey
 }
 
 // The kernel test.
-pub fn is_valid(k: Kernel) -> bool
+pub fn is_valid(k: State) -> bool
     ensures { λ r. ⌜ r ≡ valid day k ⌝ }
 {
     let v = survey(k);

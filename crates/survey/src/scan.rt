@@ -5,13 +5,13 @@ ghost use Prim.Native.Nat.{_+_, _*_, _<_, min};
 ghost use lib.Dec.{ltb};
 ghost use Rattle.lock.specs.Locks.{waiting};
 ghost use Rattle.task.specs.State.{unheld};
-ghost use Rattle.kernel.specs.State.{mostTasks};
-ghost use Rattle.kernel.specs.Running.{runner};
+ghost use Rattle.machine.specs.State.{mostTasks};
+ghost use Rattle.machine.specs.Running.{runner};
 ghost use Rattle.survey.specs.Looks.{taskOf};
-use kernel::Kernel;
-use kernel::Running;
 use lock::Wait;
 use lock::is_waiting;
+use machine::Running;
+use machine::State;
 use task::Hold;
 
 pub const MOST_TASKS: usize = 32;
@@ -71,7 +71,7 @@ pub fn nearest(least: u32, runs: bool, current: u8, i: usize) -> u32
 }
 
 // The running task: the most urgent runnable one, or none.
-pub fn running(k: Kernel) -> Running
+pub fn running(k: State) -> Running
     ensures { λ r. ⌜ r ≡ runner k ⌝ }
 {
     let counts = k.counts;

@@ -1,8 +1,8 @@
 // Sets of tasks as numbers, in which task i counts 2^i.
 ghost use mathlib.Core.Path.{_≡_};
 ghost use Prim.Native.Nat.{_<_};
-ghost use Rattle.kernel.specs.State.{mostTasks};
-ghost use Rattle.kernel.specs.Sets.{only, put};
+ghost use Rattle.machine.specs.State.{mostTasks};
+ghost use Rattle.machine.specs.Sets.{only, put};
 ghost use Rattle.survey.specs.Looks.{putIf};
 
 // Task i alone, or the empty set.

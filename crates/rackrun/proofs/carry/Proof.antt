@@ -11,7 +11,7 @@ use Rattle.lock.proofs.Bools.{contra}
 use Rattle.script.specs.Script.{Runs}
 use Rattle.lines.proofs.PlacedLaws.{text-within}
 use Rattle.calendar.specs.Limits.{day}
-use Rattle.kernel.specs.Log.{final}
+use Rattle.machine.specs.Log.{final}
 use Rattle.script.specs.Records.{records}
 use Rattle.rackrun.proofs.TurnLaws.{stays, gets-on, at-end}
 use Rattle.rackrun.proofs.carry.Statement.{statement}
@@ -20,7 +20,7 @@ use Rattle.rackrun.proofs.carry.Tie as tie
 abbrev Inv-loop : tie.InvT-loop
 Inv-loop s out₀ now₀ at₀ t7 out now at =
     (length out ≡ length out₀) × (at ≤ length s)
-    × (final day (now .kernel) (records (drop at s)) ≡ final day (now₀ .kernel) (records s))
+    × (final day (now .state) (records (drop at s)) ≡ final day (now₀ .state) (records s))
 
 abbrev μ-loop : tie.MeasureT-loop
 μ-loop s out₀ now₀ at₀ t7 out now at = length s - at
@@ -38,10 +38,10 @@ headOf u = u .before .before .before .before
 abbrev script : H → List ℕ
 script h = h .before .before .before .args .s .now
 
-runs : (u : U) → Runs day (headOf u .loop .now .kernel) (drop (headOf u .loop .at) (script (headOf u))) (headOf u .loop .out) (u .run .last .1 .1 .0) (u .run .result)
+runs : (u : U) → Runs day (headOf u .loop .now .state) (drop (headOf u .loop .at) (script (headOf u))) (headOf u .loop .out) (u .run .last .1 .1 .0) (u .run .result)
 runs u =
     let h = headOf u in
-    subst (λ (x : List ℕ). Runs day (h .loop .now .kernel) x (h .loop .out) (u .run .last .1 .1 .0) (u .run .result)) (part-to-end (script h) (h .loop .at)) (u .run .ensures)
+    subst (λ (x : List ℕ). Runs day (h .loop .now .state) x (h .loop .out) (u .run .last .1 .1 .0) (u .run .result)) (part-to-end (script h) (h .loop .at)) (u .run .ensures)
 
 within : (u : U) → headOf u .loop .at + u .run .result .read ≤ length (script (headOf u))
 within u = omega (arith, runs u .within, length-drop (headOf u .loop .at) (script (headOf u)))
@@ -107,7 +107,7 @@ same-length-2 c = search needs
 returns-2 : tie.Need-returns-2 Inv-loop μ-loop
 returns-2 c =
     let h = c .before in
-    λ e. at-end (h .loop .now .kernel) (script h) (h .loop .at) (omega arith) (h .loop .inv .2)
+    λ e. at-end (h .loop .now .state) (script h) (h .loop .at) (omega arith) (h .loop .inv .2)
 
 pub carry-spec : {M : Type 1} → statement M
 carry-spec =

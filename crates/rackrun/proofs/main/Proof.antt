@@ -13,10 +13,10 @@ use Rattle.rackrun.proofs.main.Statement.{statement}
 use Rattle.rackrun.proofs.main.Tie as tie
 
 abbrev Inv-loop : tie.InvT-loop
-Inv-loop input₀ output₀ rack₀ held₀ turns₀ t11 input output rack held turns = (65536 ≡ length input) × (65536 ≡ length output) × (held < 24)
+Inv-loop input₀ output₀ rack₀ held₀ turns₀ t11 input output kernel held turns = (65536 ≡ length input) × (65536 ≡ length output) × (held < 24)
 
 abbrev μ-loop : tie.MeasureT-loop
-μ-loop input₀ output₀ rack₀ held₀ turns₀ t11 input output rack held turns = turns
+μ-loop input₀ output₀ rack₀ held₀ turns₀ t11 input output kernel held turns = turns
 
 -- Where input was read into, and where it is known how much of it is whole records.
 abbrev R : Type 0

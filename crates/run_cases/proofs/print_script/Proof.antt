@@ -10,10 +10,10 @@ use Rattle.run_cases.proofs.print_script.Statement.{statement}
 use Rattle.run_cases.proofs.print_script.Tie as tie
 
 abbrev Inv-loop : tie.InvT-loop
-Inv-loop s out₀ rack₀ at₀ out rack at = (200 ≡ length out) × (at ≤ length s)
+Inv-loop s out₀ rack₀ at₀ out kernel at = (200 ≡ length out) × (at ≤ length s)
 
 abbrev μ-loop : tie.MeasureT-loop
-μ-loop s out₀ rack₀ at₀ out rack at = length s - at
+μ-loop s out₀ rack₀ at₀ out kernel at = length s - at
 
 -- Where a run has come back.
 written-in : (c : tie.After-run Inv-loop μ-loop) → c .run .result .written ≤ length (c .run .last .1 .1 .0)

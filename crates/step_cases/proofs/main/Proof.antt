@@ -10,10 +10,10 @@ use Rattle.step_cases.proofs.main.Statement.{statement}
 use Rattle.step_cases.proofs.main.Tie as tie
 
 abbrev Inv-loop : tie.InvT-loop
-Inv-loop buf₀ one₀ rack₀ turns₀ t9 buf one rack turns = (256 ≡ length buf) × (1 ≡ length one)
+Inv-loop buf₀ one₀ rack₀ turns₀ t9 buf one kernel turns = (256 ≡ length buf) × (1 ≡ length one)
 
 abbrev μ-loop : tie.MeasureT-loop
-μ-loop buf₀ one₀ rack₀ turns₀ t9 buf one rack turns = turns
+μ-loop buf₀ one₀ rack₀ turns₀ t9 buf one kernel turns = turns
 
 -- Where a record was read into the buffer.
 abbrev B : Type 0

@@ -7,12 +7,12 @@ use mathlib.Core.Logic.{⊎-elim}
 use Prim.Native.Nat.{ℕ, _+_, _-_, _≤_, _<_}
 use native.Mathlib.Omega.{arith}
 use lib.ListN.{length}
-use Rattle.kernel.specs.declared.Kernel.{Kernel}
+use Rattle.machine.specs.declared.State.{State}
 use Rattle.lines.specs.Lines.{longestLine}
 use Rattle.lock.proofs.Bools.{both}
 use Rattle.calendar.specs.Limits.{day}
-use Rattle.engine.proofs.StirLaws.{said-ok, said-runner, quiet-until-then}
-use Rattle.engine.specs.Stirring.{QuietBefore}
+use Rattle.calls.proofs.StirLaws.{said-ok, said-runner, quiet-until-then}
+use Rattle.calls.specs.Stirring.{QuietBefore}
 use Rattle.script.proofs.OwnedTables.{tables-long}
 use Rattle.script.proofs.Going.{Going, good, early, few, ahead, fits, started, stopped, refused, moved, stepped}
 use Rattle.script.proofs.run.run.Statement.{statement}
@@ -41,7 +41,7 @@ nOf c = c .before .before .before
 abbrev eOf : J → E
 eOf c = c .before .before .before .before
 
-abbrev kOf : J → Kernel
+abbrev kOf : J → State
 kOf c = nOf (eOf c) .before .before .loop .k
 
 passes : (c : E) → nOf c .before .before .before .survey .result .ok ≡ true
@@ -62,9 +62,9 @@ loop-holds c =
     let s = c .before .before .before .before in
     let a = s .args in
     let o = s .good .0 .1 .1 .0 in
-    started (a .s .now) (a .out .now) (a .rack .kernel) (c .survey .result .ok) (c .survey .result .runner)
-    (λ i. c .before .before .before .shared-slice-known .given i .fits) (tables-long (a .rack .kernel) (o .0, o .1 .1))
-    (said-ok day (a .rack .kernel) (c .survey .ensures)) (said-runner day (a .rack .kernel) (c .survey .ensures))
+    started (a .s .now) (a .out .now) (a .kernel .state) (c .survey .result .ok) (c .survey .result .runner)
+    (λ i. c .before .before .before .shared-slice-known .given i .fits) (tables-long (a .kernel .state) (o .0, o .1 .1))
+    (said-ok day (a .kernel .state) (c .survey .ensures)) (said-runner day (a .kernel .state) (c .survey .ensures))
 
 sub-loop : tie.Need-sub-loop Inv-loop μ-loop
 sub-loop c = omega (arith, c .loop .inv .room, c .loop .inv .long)

@@ -1,8 +1,8 @@
 -- Nothing was done and nobody is marked.
 use borrow.Author.Needs.{needs}
 use mathlib.Core.Path.{ap, _∙_}
-use Rattle.kernel.specs.Work.{onlyLocks}
-use Rattle.kernel.specs.Step.{finish}
+use Rattle.machine.specs.Work.{onlyLocks}
+use Rattle.machine.specs.Step.{finish}
 use Rattle.serving.specs.Ends.{workHere}
 use Rattle.serving.proofs.ends.done.Statement.{statement}
 use Rattle.serving.proofs.ends.done.Tie as tie

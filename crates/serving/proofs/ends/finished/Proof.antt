@@ -6,9 +6,9 @@ use mathlib.Core.Logic.{⊎-elim}
 use Prim.Native.Nat.{_≤_, _-_}
 use native.Mathlib.Omega.{arith}
 use Rattle.lock.proofs.Bools.{neither}
-use Rattle.kernel.specs.Serving.{nextServed}
-use Rattle.kernel.specs.Step.{finish}
-use Rattle.kernel.specs.declared.Running.the-variants.{Idle}
+use Rattle.machine.specs.Serving.{nextServed}
+use Rattle.machine.specs.Step.{finish}
+use Rattle.machine.specs.declared.Running.the-variants.{Idle}
 use Rattle.serving.specs.Ends.{served, servedOf}
 use Rattle.survey.proofs.KernelFacts.{Good}
 use Rattle.survey.proofs.LeastLaws.{leastOf, canRun, bounds, least-none, runs-next, least-runs}

@@ -1,6 +1,6 @@
 -- The kernel and the set that serving leaves, and who runs in it.
 use borrow.Author.Needs.{needs}
-use Rattle.kernel.specs.Step.{finish}
+use Rattle.machine.specs.Step.{finish}
 use Rattle.serving.specs.Ends.{servedOf}
 use Rattle.serving.proofs.ends.finished_serving.Statement.{statement}
 use Rattle.serving.proofs.ends.finished_serving.Tie as tie

@@ -1,9 +1,9 @@
 -- The list is taken and the wait is over; the counts are as they were.
 use borrow.Author.Needs.{needs}
 use native.Mathlib.Omega.{arith}
-use Rattle.kernel.specs.State.{taskAt}
-use Rattle.kernel.specs.Serving.{grantTo}
-use Rattle.kernel.proofs.Serving.{served-waits, served-free}
+use Rattle.machine.specs.State.{taskAt}
+use Rattle.machine.specs.Serving.{grantTo}
+use Rattle.machine.proofs.Serving.{served-waits, served-free}
 use Rattle.serving.specs.Ends.{served}
 use Rattle.serving.proofs.WaitLaws.{Listed, tasks-fit, listed}
 use Rattle.serving.proofs.ends.grant_to.Statement.{statement}

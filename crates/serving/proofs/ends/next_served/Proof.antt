@@ -9,10 +9,10 @@ use native.Mathlib.Omega.{arith}
 use Rattle.lock.specs.Locks.{waiting, free}
 use Rattle.lock.proofs.Rests.{Named, Passed, number-below, fails-here, passes-here, all-pass}
 use Rattle.task.specs.declared.Task.{Task}
-use Rattle.kernel.specs.State.{mostTasks, taskAt}
-use Rattle.kernel.specs.Granting.{servable}
-use Rattle.kernel.specs.Running.{urgency}
-use Rattle.kernel.specs.declared.Kernel.{Kernel}
+use Rattle.machine.specs.State.{mostTasks, taskAt}
+use Rattle.machine.specs.Granting.{servable}
+use Rattle.machine.specs.Running.{urgency}
+use Rattle.machine.specs.declared.State.{State}
 use Rattle.survey.specs.Looks.{taskOf}
 use Rattle.survey.proofs.KernelFacts.{Good, list-long}
 use Rattle.survey.proofs.LeastLaws.{leastOf, Bounded, bounds, least-none, least-passed, least-taken, least-left, least-found}
@@ -20,7 +20,7 @@ use Rattle.serving.proofs.WaitLaws.{Listed, tasks-fit, listed, servable
 use Rattle.serving.proofs.ends.next_served.Statement.{statement}
 use Rattle.serving.proofs.ends.next_served.Tie as tie
 
-abbrev canServe : Kernel → ℕ → Bool
+abbrev canServe : State → ℕ → Bool
 canServe k = servable (k .counts .tasks) (k .tasks) (k .locks)
 
 abbrev Inv-loop : tie.InvT-loop
@@ -40,7 +40,7 @@ abbrev μ-tasks : tie.MeasureT-tasks
 abbrev T : Type 0
 T = tie.In-tasks Inv-loop μ-loop Inv-tasks μ-tasks
 
-abbrev kOf : T → Kernel
+abbrev kOf : T → State
 kOf c = c .before .before .before .before .before .args .t1
 
 abbrev iOf : T → ℕ

@@ -4,11 +4,11 @@ use mathlib.Core.Path.{_≡_, refl, sym, _∙_, ap}
 use mathlib.Core.Bool.{true}
 use Prim.Native.Nat.{ℕ, _<_}
 use native.Mathlib.Omega.{arith}
-use Rattle.kernel.specs.Granting.{servable}
-use Rattle.kernel.specs.Serving.{Served, nextServed}
-use Rattle.kernel.specs.declared.Kernel.{Kernel}
-use Rattle.kernel.specs.declared.Running.the-variants.{Runs}
-use Rattle.kernel.proofs.Serving.{waiters}
+use Rattle.machine.specs.Granting.{servable}
+use Rattle.machine.specs.Serving.{Served, nextServed}
+use Rattle.machine.specs.declared.State.{State}
+use Rattle.machine.specs.declared.Running.the-variants.{Runs}
+use Rattle.machine.proofs.Serving.{waiters}
 use Rattle.survey.specs.Looks.{waitsOk}
 use Rattle.serving.specs.Ends.{served, withServed, servedOf}
 use Rattle.serving.proofs.WaitLaws.{tasks-fit, waits-kept}
@@ -29,7 +29,7 @@ abbrev μ-loop : tie.MeasureT-loop
 abbrev P : Type 0
 P = tie.After-known-told Inv-loop μ-loop
 
-abbrev kOf : P → Kernel
+abbrev kOf : P → State
 kOf c = c .before .before .before .before .loop .now
 
 abbrev iOf : P → ℕ

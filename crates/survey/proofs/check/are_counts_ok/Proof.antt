@@ -1,6 +1,6 @@
 -- Each count by its own limit.
 use borrow.Author.Needs.{needs}
-use Rattle.kernel.specs.Test.{countsOk}
+use Rattle.machine.specs.Test.{countsOk}
 use Rattle.survey.proofs.check.are_counts_ok.Statement.{statement}
 use Rattle.survey.proofs.check.are_counts_ok.Tie as tie
 

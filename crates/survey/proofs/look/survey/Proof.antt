@@ -11,9 +11,9 @@ use Rattle.calendar.specs.declared.Instant.{Instant}
 use Rattle.task.specs.Schedules.{falls}
 use Rattle.task.specs.Turns.{delayEnds}
 use Rattle.task.specs.declared.Task.{Task}
-use Rattle.kernel.specs.State.{mostTasks, taskAt}
-use Rattle.kernel.specs.Test.{isPriority, scheduleOk, allBelow, countsOk, valid}
-use Rattle.kernel.specs.declared.Kernel.{Kernel}
+use Rattle.machine.specs.State.{mostTasks, taskAt}
+use Rattle.machine.specs.Test.{isPriority, scheduleOk, allBelow, countsOk, valid}
+use Rattle.machine.specs.declared.State.{State}
 use Rattle.survey.specs.Looks.{unfit, surveyed}
 use Rattle.survey.proofs.Owned.{Owned}
 use Rattle.survey.proofs.LeastLaws.{canRun, bounds}
@@ -34,20 +34,20 @@ abbrev μ-loop : tie.MeasureT-loop
 abbrev P : Type 0
 P = tie.Else1 Inv-loop μ-loop
 
-abbrev kernel : P → Kernel
-kernel c = c .before .before .before .before .before .before .args .t1
+abbrev state : P → State
+state c = c .before .before .before .before .before .before .args .t1
 
-good : (c : P) → Owned (kernel c)
+good : (c : P) → Owned (state c)
 good c = let s = c .before .before .before .before .before .before in (s .good .0 .0, s .good .0 .1 .1)
 
-few : (c : P) → kernel c .counts .tasks ≤ mostTasks
-few c = tasks-fit day (kernel c) (c .before .before .is-time-of-day .ensures) (c .before .are-counts-ok .ensures) (c .if1 .left)
+few : (c : P) → state c .counts .tasks ≤ mostTasks
+few c = tasks-fit day (state c) (c .before .before .is-time-of-day .ensures) (c .before .are-counts-ok .ensures) (c .if1 .left)
 
-known : (c : P) → countsOk (kernel c .counts) ≡ true
-known c = counted day (kernel c) (c .before .before .is-time-of-day .ensures) (c .before .are-counts-ok .ensures) (c .if1 .left)
+known : (c : P) → countsOk (state c .counts) ≡ true
+known c = counted day (state c) (c .before .before .is-time-of-day .ensures) (c .before .are-counts-ok .ensures) (c .if1 .left)
 
-all : (c : P) → allBelow (kernel c .counts .tasks) (fitAt day (kernel c)) ≡ valid day (kernel c)
-all c = all-fit day (kernel c) (c .before .before .is-time-of-day .ensures) (c .before .are-counts-ok .ensures) (c .if1 .left) (good c)
+all : (c : P) → allBelow (state c .counts .tasks) (fitAt day (state c)) ≡ valid day (state c)
+all c = all-fit day (state c) (c .before .before .is-time-of-day .ensures) (c .before .are-counts-ok .ensures) (c .if1 .left) (good c)
 
 abbrev I : Type 0
 I = tie.In-loop Inv-loop μ-loop
@@ -56,7 +56,7 @@ abbrev passed : I → P
 passed c = c .before .before .before .before .before
 
 abbrev one : I → Task
-one c = taskAt (kernel (passed c) .tasks) (c .before .loop .i)
+one c = taskAt (state (passed c) .tasks) (c .before .loop .i)
 
 room : (c : I) → c .before .loop .i < mostTasks
 room c = omega (arith, few (passed c), c .loop-test .taken)
@@ -66,8 +66,8 @@ abbrev moment : I → Instant
 moment c = c .before .before .before .plus .result
 
 -- A task that isn't fit ends the look.
-ends : (c : I) → fitAt day (kernel (passed c)) (c .before .loop .i) ≡ false → unfit ≡ surveyed day (kernel (passed c))
-ends c e = unfit-is day (kernel (passed c)) (upto-fails (c .before .loop .inv .tasks) (c .loop-test .taken) e ∙ all (passed c))
+ends : (c : I) → fitAt day (state (passed c)) (c .before .loop .i) ≡ false → unfit ≡ surveyed day (state (passed c))
+ends c e = unfit-is day (state (passed c)) (upto-fails (c .before .loop .inv .tasks) (c .loop-test .taken) e ∙ all (passed c))
 
 abbrev here : tie.After-are-priorities Inv-loop μ-loop → I
 here c = c .before
@@ -82,7 +82,7 @@ prior c = c .before .before .before .before .before .before
 priorities : (c : S) → let t = one (here (prior c)) in (isPriority (t .declared) && isPriority (t .current)) ≡ true
 priorities c = sym (prior c .are-priorities .ensures) ∙ not-false _ (c .before .before .before .before .before .if2 .left)
 
-schedule : (c : S) → let i = here (prior c) in let s = one i .schedule in scheduleOk day (kernel (passed i) .counts .interrupts) (s .alarm .plan) s ≡ true
+schedule : (c : S) → let i = here (prior c) in let s = one i .schedule in scheduleOk day (state (passed i) .counts .interrupts) (s .alarm .plan) s ≡ true
 schedule c =
     ⊎-elim (λ w. sym (w .3 .ensures) ∙ not-false _ (w .4 .left))
     (λ w. plan-none day _ _ _ (sym (c .before .is-planned .ensures) ∙ w .0 .left)) (c .if3 .came)
@@ -116,12 +116,12 @@ T = tie.Joined7 Inv-loop μ-loop
 abbrev started : T → U
 started c = c .before .before .before
 
-fits : (c : T) → let i = turn (started c) in fitAt day (kernel (passed i)) (i .before .loop .i) ≡ true
+fits : (c : T) → let i = turn (started c) in fitAt day (state (passed i)) (i .before .loop .i) ≡ true
 fits c =
     let u = started c in
     let p = scheduled u in
     let i = turn u in
-    let k = kernel (passed i) in
+    let k = state (passed i) in
     ⊎-elim (λ w. fit-busy day (k .counts) (k .locks) (one i) (priorities p) (schedule p) (start u) (sym (w .2 .ensures) ∙ not-false _ (w .3 .left)))
     (λ w. fit-eased day (k .counts) (k .locks) (one i) (priorities p) (schedule p) (start u) (sym (c .before .is-at-ease .ensures) ∙ not-false _ (w .0 .left)))
     (c .if7 .came)
@@ -137,7 +137,7 @@ stirring c =
     (λ w. stirs-same (falling p) (w .1) (eased (t .wait) (t .hold) (sym (c .before .is-at-ease .ensures) ∙ not-false _ (w .0 .left)) .ends (moment i)))
     (c .if7 .came)
 
-running : (c : T) → let i = turn (started c) in c .if7 .runs ≡ canRun (kernel (passed i) .tasks) (i .before .loop .i)
+running : (c : T) → let i = turn (started c) in c .if7 .runs ≡ canRun (state (passed i) .tasks) (i .before .loop .i)
 running c =
     let t = one (turn (started c)) in
     ⊎-elim (λ w. w .7 ∙ w .5 .ensures) (λ w. w .2 ∙ eased-runs t (sym (c .before .is-at-ease .ensures) ∙ not-false _ (w .0 .left))) (c .if7 .came)
@@ -165,7 +165,7 @@ cast-n c = search needs
 plus-requires : tie.Need-plus-requires Inv-loop μ-loop
 plus-requires c κs =
     let r = c .before .before in
-    omega (arith, timely day (kernel (c .before)) (r .before .is-time-of-day .ensures) (r .are-counts-ok .ensures) (c .before .if1 .left))
+    omega (arith, timely day (state (c .before)) (r .before .is-time-of-day .ensures) (r .are-counts-ok .ensures) (c .before .if1 .left))
 
 loop-holds : tie.Need-loop-holds Inv-loop μ-loop
 loop-holds c = looked-none day _ _
@@ -191,7 +191,7 @@ unfit-requires-2 c κs = search needs
 returns-2 : tie.Need-returns-2 Inv-loop μ-loop
 returns-2 c =
     let p = c .before .before in
-    let k = kernel (passed (here p)) in
+    let k = state (passed (here p)) in
     c .unfit2 .ensures
     ∙ ends (here p) (odd-priority day (k .counts) (k .locks) (one (here p)) (sym (p .are-priorities .ensures) ∙ not-true _ (c .before .if2 .taken)))
 
@@ -220,7 +220,7 @@ returns-3 : tie.Need-returns-3 Inv-loop μ-loop
 returns-3 c =
     let a = c .before .before in
     let i = here (a .before .before .before .before .before .before .before .before .before) in
-    let k = kernel (passed i) in
+    let k = state (passed i) in
     c .unfit3 .ensures
     ∙ ends i (odd-schedule day (k .counts) (k .locks) (one i) (sym (a .is-schedule-ok .ensures) ∙ not-true _ (c .before .if4 .taken)))
 
@@ -259,7 +259,7 @@ returns-4 c =
     let b = c .before .before in
     let e = b .before .before .before in
     let i = here (prior (e .before .before)) in
-    let k = kernel (passed i) in
+    let k = state (passed i) in
     c .unfit4 .ensures
     ∙ ends i (odd-kept day (k .counts) (k .locks) (one i)
     (sym (e .is-back .ensures) ∙ b .before .before .if5 .taken)
@@ -297,7 +297,7 @@ returns-5 c =
     let b = c .before .before in
     let e = b .before .before .before in
     let i = turn (e .before .before) in
-    let k = kernel (passed i) in
+    let k = state (passed i) in
     c .unfit5 .ensures
     ∙ ends i (odd-busy day (k .counts) (k .locks) (one i)
     (sym (e .is-at-ease .ensures) ∙ not-true _ (b .before .before .if7 .taken))
@@ -324,7 +324,7 @@ loop-again : tie.Need-loop-again Inv-loop μ-loop
 loop-again c =
     let t = c .before in
     let i = turn (started t) in
-    let k = kernel (passed i) in
+    let k = state (passed i) in
     looked-next day k (moment i) (bounds k (good (passed i))) (few (passed i)) (i .before .loop .inv) (i .loop-test .taken)
     (fits t) (stirring t) (running t) (c .nearest .ensures)
 
@@ -335,7 +335,7 @@ returns-6 : tie.Need-returns-6 Inv-loop μ-loop
 returns-6 c =
     let l = c .before .before in
     let p = l .before .before .before .before in
-    let k = kernel p in
+    let k = state p in
     fit-is day k (upto-all (l .loop .inv .tasks) (c .before .loop-test .left) ∙ all p)
     (looked-stirs day k _ (bounds k (good p)) (few p) (l .loop .inv) (c .before .loop-test .left) (l .before .before .plus .ensures))
     (c .task-of .ensures ∙ looked-runs day k _ (bounds k (good p)) (few p) (l .loop .inv) (c .before .loop-test .left))

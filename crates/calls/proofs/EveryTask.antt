@@ -1,0 +1,267 @@
+-- The turns of all tasks, one after the other: what the tables and the sets are with the first i turns made.
+use mathlib.Core.Path.{_≡_, refl, sym, _∙_, ap}
+use mathlib.Core.Bool.{Bool, true, false}
+use mathlib.Core.List.{List, [], _∷_, _++_, map}
+use Prim.Native.Nat.{ℕ, zero, suc, _+_, _*_, _^_, _≤_, _<_}
+use native.Mathlib.Nat.{not-suc-le-zero, pow-suc, one-mul}
+use native.Mathlib.Numerals.{add-one}
+use native.Mathlib.Omega.{arith}
+use lib.Bits.{bitOr, or-shifted-r}
+use lib.ListN.{length, take, drop, set, length-map}
+use lib.Seq.{length-take-le, set-getD}
+use borrow.Author.Tests.{lt-ltb, le-ltb}
+use Rattle.calendar.specs.Limits.{lastInstant}
+use Rattle.calendar.specs.declared.Instant.{Instant}
+use Rattle.layout.specs.declared.Mark.the-variants.{TI}
+use Rattle.layout.specs.declared.Call.{Call}
+use Rattle.lock.specs.Locks.{bit, waiting}
+use Rattle.lock.proofs.Bools.{and-both, byBool}
+use Rattle.task.specs.State.{noTask}
+use Rattle.task.specs.Turns.{unmarked, triggerTurn}
+use Rattle.task.specs.declared.Task.{Task}
+use Rattle.task.specs.declared.Turn.{Turn}
+use Rattle.task.proofs.Waits.{NoNewWait}
+use Rattle.machine.specs.Sets.{setOf}
+use Rattle.machine.specs.State.{mostTasks, taskAt, enabledAt, withState, begunAt}
+use Rattle.machine.specs.Work.{noWork, turns, everyTurn}
+use Rattle.machine.specs.Running.{runner, runningOf}
+use Rattle.machine.specs.Serving.{nextServed}
+use Rattle.machine.specs.Test.{valid}
+use Rattle.machine.specs.Refusals.{stateRefusalOf}
+use Rattle.machine.specs.Calls.{trigger}
+use Rattle.machine.specs.Step.{refuse, finish, orRefuse}
+use Rattle.machine.specs.declared.State.{State}
+use Rattle.machine.specs.declared.Stepped.{Stepped}
+use Rattle.machine.proofs.Below.{all-at, all-from, mostUrgent-none}
+use Rattle.machine.proofs.Facts.{TaskOk, task-test, task-untest, nobody-untest}
+use Rattle.machine.proofs.Passed.{parts, tested}
+use Rattle.machine.proofs.Works.{turn-at}
+use Rattle.machine.proofs.Sets.{setOf-lt}
+use Rattle.survey.proofs.TestLaws.{wait-of}
+use Rattle.survey.specs.Looks.{putIf, waitsOk}
+use Rattle.serving.specs.Ends.{marksOf, served, workHere, servedOf}
+use Rattle.serving.specs.declared.ends.Marks.{Marks}
+use Rattle.calls.proofs.TurnCases.{sound}
+use Rattle.machine.specs.declared.Running.{Running}
+use Rattle.machine.specs.declared.Running.the-variants.{Idle}
+use Rattle.serving.proofs.ServeLaws.{served-idle}
+use Rattle.serving.proofs.WaitLaws.{servable-idle, servable-as}
+
+-- ---- a set with one more place
+
+set-more : (bs : List Bool) (b : Bool) → setOf (bs ++ (b ∷ [])) ≡ bit b * 2 ^ length bs + setOf bs
+unfolding setOf
+set-more [] true = refl
+set-more [] false = refl
+set-more (x ∷ bs) true = rw (pow-suc 2 (length bs), set-more bs true) (omega arith)
+set-more (x ∷ bs) false = rw (set-more bs false) (omega arith)
+
+put-more : (bs : List Bool) (b : Bool) → putIf (length bs) b (setOf bs) ≡ setOf (bs ++ (b ∷ []))
+put-more bs true = rw set-more (ap (bitOr (setOf bs)) (sym (one-mul (2 ^ length bs))) ∙ or-shifted-r 1 (length bs) (setOf bs) (setOf-lt bs))
+put-more bs false = rw set-more (omega arith)
+
+-- ---- one more turn
+
+module _ (f : Task → Turn) where
+  -- The tasks, with the turns of the first i made.
+  unfoldable pub tasksAfter : ℕ → List Task → List Task
+  tasksAfter i ts = map (λ u. u .task) (turns i f ts) ++ drop i ts
+
+  -- The set of those of the first i whose turns say so.
+  unfoldable pub setAfter : (Turn → Bool) → ℕ → List Task → ℕ
+  setAfter g i ts = setOf (map g (turns i f ts))
+
+  -- The tasks whose turns are to come.
+  after-later : (i j : ℕ) (ts : List Task) → i ≤ j → taskAt (tasksAfter i ts) j ≡ taskAt ts j
+  unfolding tasksAfter
+  after-later zero j ts h = refl
+  after-later (suc i) j [] h = refl
+  after-later (suc i) zero (t ∷ ts) h = absurd (not-suc-le-zero h)
+  after-later (suc i) (suc j) (t ∷ ts) h = after-later i j ts (omega arith)
+
+  after-more : (i : ℕ) (ts : List Task) → i < length ts → set (tasksAfter i ts) i (f (taskAt ts i) .task) ≡ tasksAfter (suc i) ts
+  unfolding tasksAfter
+  after-more i [] h = absurd (not-suc-le-zero h)
+  after-more zero (t ∷ ts) h = refl
+  after-more (suc i) (t ∷ ts) h = ap (λ l. f t .task ∷ l) (after-more i ts (omega arith))
+
+  bits-more : (g : Turn → Bool) (i : ℕ) (ts : List Task) → i < length ts → map g (turns (suc i) f ts) ≡ map g (turns i f ts) ++ (g (f (taskAt ts i)) ∷ [])
+  bits-more g i [] h = absurd (not-suc-le-zero h)
+  bits-more g zero (t ∷ ts) h = refl
+  bits-more g (suc i) (t ∷ ts) h = ap (λ l. g (f t) ∷ l) (bits-more g i ts (omega arith))
+
+  bits-long : (g : Turn → Bool) (i : ℕ) (ts : List Task) → i < length ts → length (map g (turns i f ts)) ≡ i
+  bits-long g i ts h = length-map (turns i f ts) g ∙ length-map (take i ts) f ∙ length-take-le i ts (omega arith)
+
+  set-after-more : (g : Turn → Bool) (i : ℕ) (ts : List Task) → i < length ts → putIf i (g (f (taskAt ts i))) (setAfter g i ts) ≡ setAfter g (suc i) ts
+  unfolding setAfter
+  set-after-more g i ts h =
+      ap (λ (x : ℕ). putIf x (g (f (taskAt ts i))) (setOf (map g (turns i f ts)))) (sym (bits-long g i ts h))
+      ∙ put-more (map g (turns i f ts)) (g (f (taskAt ts i)))
+      ∙ ap setOf (sym (bits-more g i ts h))
+
+  abbrev pub marksAfter : ℕ → List Task → Marks
+  marksAfter i ts =
+      record {
+        due = setAfter (λ u. u .due) i ts;
+        started = setAfter (λ u. u .started) i ts;
+        ended = setAfter (λ u. u .ended) i ts;
+        lost = setAfter (λ u. u .lost) i ts;
+        granted = 0;
+      }
+
+-- The sets with the turn u of task i.
+abbrev pub withTurn : ℕ → Turn → Marks → Marks
+withTurn i u m =
+    record {
+      due = putIf i (u .due) (m .due);
+      started = putIf i (u .started) (m .started);
+      ended = putIf i (u .ended) (m .ended);
+      lost = putIf i (u .lost) (m .lost);
+      granted = m .granted;
+    }
+
+-- The turns f of the first i tasks of the kernel k have made the kernel `next` and the sets m.
+pub record Made (f : Task → Turn) (k : State) (i : ℕ) (next : State) (m : Marks) : Type 0 where
+  pub state : next ≡ withState (tasksAfter f i (k .tasks)) (k .locks) (k .enabled) k
+  pub marks : m ≡ marksAfter f i (k .tasks)
+
+module _ (f : Task → Turn) (k : State) where
+  pub made-none : Made f k 0 k (record { due = 0; started = 0; ended = 0; lost = 0; granted = 0 })
+  unfolding tasksAfter setAfter setOf
+  made-none = record { state = refl; marks = refl }
+
+  pub made-all : {i : ℕ} {next : State} {m : Marks} (n : Instant) → i ≡ k .counts .tasks → Made f k i next m
+      → (next ≡ withState (everyTurn k n f .tasks) (k .locks) (k .enabled) k) × (m ≡ marksOf (everyTurn k n f))
+  unfolding tasksAfter setAfter everyTurn
+  made-all n e h =
+      (h .state ∙ ap (λ (x : ℕ). withState (tasksAfter f x (k .tasks)) (k .locks) (k .enabled) k) e, h .marks ∙ ap (λ (x : ℕ). marksAfter f x (k .tasks)) e)
+
+  module _ (i : ℕ) (l : i < length (k .tasks)) {next : State} {m : Marks} (h : Made f k i next m) where
+    pub task-now : taskAt (next .tasks) i ≡ taskAt (k .tasks) i
+    task-now = ap (λ (q : State). taskAt (q .tasks) i) (h .state) ∙ after-later f i i (k .tasks) (omega arith)
+
+    made-turn : (u : Turn) → u ≡ f (taskAt (next .tasks) i)
+        → Made f k (i + 1) (withState (set (next .tasks) i (u .task)) (next .locks) (next .enabled) next) (withTurn i u m)
+    made-turn u e =
+        let v : u ≡ f (taskAt (k .tasks) i) = e ∙ ap f task-now in
+        rw (add-one, h .state, h .marks, v)
+        (record {
+          state = rw (after-more f i (k .tasks) l);
+          marks = rw (set-after-more f (λ u. u .due) i (k .tasks) l, set-after-more f (λ u. u .started) i (k .tasks) l, set-after-more f (λ u. u .ended) i (k .tasks) l, set-after-more f (λ u. u .lost) i (k .tasks) l);
+        })
+
+    module _ {next′ : State} {m′ : Marks} where
+      -- Task i has its turn,
+      pub made-more : (u : Turn) → u ≡ f (taskAt (next .tasks) i)
+          → next′ ≡ withState (set (next .tasks) i (u .task)) (next .locks) (next .enabled) next → m′ ≡ withTurn i u m
+          → Made f k (i + 1) next′ m′
+      made-more u e a b = rw (a, b) (made-turn u e)
+
+      -- or is passed over, if it would change nothing.
+      pub made-still : f (taskAt (next .tasks) i) ≡ unmarked (taskAt (next .tasks) i) → next′ ≡ next → m′ ≡ m → Made f k (i + 1) next′ m′
+      made-still e a b =
+          let q = made-turn (unmarked (taskAt (next .tasks) i)) (sym e) in
+          record {
+            state = a ∙ ap (λ (ts : List Task). withState ts (next .locks) (next .enabled) next) (sym (set-getD (next .tasks) i noTask)) ∙ q .state;
+            marks = b ∙ q .marks;
+          }
+
+-- ---- what they leave of a kernel that passes the test
+
+abbrev pub withNow : Instant → State → State
+withNow n k =
+    record {
+      tasks = k .tasks;
+      locks = k .locks;
+      enabled = k .enabled;
+      counts = k .counts;
+      clock = k .clock;
+      now = n;
+      begun = k .begun;
+    }
+
+-- The kernel in which every task has had its turn, at instant n.
+abbrev pub everyDone : State → Instant → (Task → Turn) → State
+everyDone k n f = withNow n (withState (everyTurn k n f .tasks) (k .locks) (k .enabled) k)
+
+pub every-finish : (k : State) (n : Instant) (f : Task → Turn) {next : State} {m : Marks}
+    → next ≡ everyDone k n f → m ≡ marksOf (everyTurn k n f) → finish next (workHere next m) ≡ finish k (everyTurn k n f)
+unfolding finish everyTurn
+every-finish k n f a b = rw (a, b)
+
+module _ (day : ℕ) (k : State) (v : valid day k ≡ true) where
+  -- Turns that keep the limits of a task keep the limits of the waits.
+  pub every-waits : length (k .tasks) ≡ mostTasks → (n : Instant) (f : Task → Turn)
+      → ((t : Task) → TaskOk day (k .counts) t → TaskOk day (k .counts) (f t .task))
+      → {next : State} → next ≡ everyDone k n f → waitsOk next ≡ true
+  unfolding waitsOk everyTurn
+  every-waits long n f keeps a =
+      let room : k .counts .tasks ≤ length (k .tasks) = omega (arith, long, tested day k v .fits .tasks) in
+      rw a
+      (and-both (sound day k v .counts)
+      (all-from (k .counts .tasks) _
+      (λ i l. rw (turn-at (k .counts .tasks) f (k .tasks) room i l)
+      (wait-of day (k .counts) _ (task-test day (k .counts) _ (keeps (taskAt (k .tasks) i) (task-untest day (k .counts) (taskAt (k .tasks) i) (all-at (k .counts .tasks) _ (sound day k v .tasks) i l))))))))
+
+-- ---- turns that begin no wait
+
+-- They leave nobody to serve.
+pub every-idle : (day : ℕ) (k : State) → valid day k ≡ true → length (k .tasks) ≡ mostTasks → (n : Instant) (f : Task → Turn)
+    → ((t : Task) → NoNewWait t (f t .task)) → nextServed (k .counts .tasks) (served (everyDone k n f) 0) ≡ Idle
+unfolding everyTurn
+every-idle day k v long n f new =
+    let c = k .counts .tasks in
+    let ts = everyTurn k n f .tasks in
+    let room : c ≤ length (k .tasks) = omega (arith, long, tested day k v .fits .tasks) in
+    mostUrgent-none c _ _
+    (λ i l. byBool (waiting (taskAt ts i .wait))
+    (λ w.
+    let t = taskAt (k .tasks) i in
+    let e : taskAt ts i ≡ f t .task = turn-at c f (k .tasks) room i l in
+    let s = new t (ap (λ (u : Task). waiting (u .wait)) (sym e) ∙ w) in
+    servable-as c ts (k .locks) i w
+    ∙ rw (e, s .0, s .1, s .2)
+    (sym (servable-as c (k .tasks) (k .locks) i (ap waiting (sym (s .0)) ∙ ap (λ (u : Task). waiting (u .wait)) (sym e) ∙ w))
+    ∙ nobody-untest k (parts day k v .stuck) i l))
+    (servable-idle c ts (k .locks) i))
+
+-- The end of a call after which the task r runs, with nobody served.
+abbrev pub unserved : State → Marks → Running → Stepped
+unserved k m r =
+    record {
+      state = begunAt (k .now) k;
+      answer = record { number = 0; running = r; due = m .due; started = m .started; ended = m .ended; lost = m .lost; granted = m .granted };
+    }
+
+unserved-finish : (k : State) (m : Marks) {r : Running} → nextServed (k .counts .tasks) (served k 0) ≡ Idle → r ≡ runner k → unserved k m r ≡ finish k (workHere k m)
+unfolding finish servedOf
+unserved-finish k m h e = rw (e, served-idle k (m .granted) h)
+
+-- So it ends where nobody is to be served once every task has had its turn.
+pub every-unserved : (k : State) (n : Instant) (f : Task → Turn) {next : State} {m : Marks} {r : Running}
+    → next ≡ everyDone k n f → m ≡ marksOf (everyTurn k n f)
+    → nextServed (k .counts .tasks) (served (everyDone k n f) 0) ≡ Idle → r ≡ runningOf (k .counts .tasks) (everyTurn k n f .tasks)
+    → unserved next m r ≡ finish k (everyTurn k n f)
+every-unserved k n f a b h e = rw (a, b) (unserved-finish (everyDone k n f) (marksOf (everyTurn k n f)) h e) ∙ every-finish k n f refl refl
+
+-- ---- a tick at the last instant is refused
+
+pub tick-early : (k : State) (c : Call) (s : Stepped) → k .now .0 < lastInstant → s ≡ orRefuse k (stateRefusalOf TI k c) s
+unfolding stateRefusalOf
+tick-early k c s l = rw (lt-ltb _ _ l)
+
+pub tick-late : (k : State) (c : Call) (s : Stepped) → lastInstant ≤ k .now .0 → refuse k 15 (runner k) ≡ orRefuse k (stateRefusalOf TI k c) s
+unfolding stateRefusalOf
+tick-late k c s l = rw (le-ltb _ _ l)
+
+-- ---- a disabled interrupt changes nothing
+
+module _ (day : ℕ) (k : State) (i : ℕ) where
+  pub trigger-on : enabledAt k i ≡ true → trigger day k i ≡ everyTurn k (k .now) (triggerTurn day (k .clock) (k .now) i)
+  unfolding trigger
+  trigger-on e = rw e
+
+  pub trigger-off : enabledAt k i ≡ false → trigger day k i ≡ noWork k
+  unfolding trigger
+  trigger-off e = rw e

@@ -1,0 +1,306 @@
+-- Before the last instant each task has its turn or stays as it is; at it the tick is refused.
+use borrow.Author.Needs.{needs}
+use mathlib.Core.Path.{_≡_, sym, _∙_, ap}
+use mathlib.Core.Logic.{⊎-elim}
+use mathlib.Core.Bool.{true}
+use Prim.Native.Nat.{_+_, _≤_, _<_, _-_}
+use native.Mathlib.Nat.{le-antisymm}
+use native.Mathlib.Omega.{arith}
+use lib.Dec.{leb}
+use lib.ListN.{length}
+use borrow.Author.Tests.{leb-true}
+use Rattle.calendar.specs.Limits.{day, lastInstant}
+use Rattle.calendar.specs.declared.Instant.{Instant}
+use Rattle.layout.specs.declared.Mark.the-variants.{TI}
+use Rattle.layout.specs.declared.Call.{Call}
+use Rattle.lock.proofs.Bools.{both}
+use Rattle.task.specs.Turns.{tickTurn}
+use Rattle.task.specs.declared.Turn.{Turn}
+use Rattle.task.proofs.Laws.{still}
+use Rattle.task.proofs.Waits.{no-wait-tick}
+use Rattle.machine.specs.State.{mostTasks, taskAt, withState}
+use Rattle.machine.specs.Running.{runningOf}
+use Rattle.machine.specs.Work.{everyTurn}
+use Rattle.machine.specs.Test.{valid}
+use Rattle.machine.specs.Refusals.{stateRefusalOf}
+use Rattle.machine.specs.Calls.{tick}
+use Rattle.machine.specs.Step.{finish, refuse, orRefuse}
+use Rattle.machine.specs.declared.State.{State}
+use Rattle.machine.specs.declared.Running.{Running}
+use Rattle.machine.proofs.Below.{all-at}
+use Rattle.machine.proofs.Facts.{task-untest}
+use Rattle.machine.proofs.Passed.{tested}
+use Rattle.machine.proofs.Turns.{good-tick}
+use Rattle.survey.proofs.KernelFacts.{Good, tasks-long}
+use Rattle.survey.proofs.LeastLaws.{bounds}
+use Rattle.serving.specs.Ends.{marksOf}
+use Rattle.calls.proofs.TurnCases.{sound}
+use Rattle.calls.proofs.EveryTask.{Made, made-none, made-all, made-more, made-still, task-now, withNow, every-idle, every-unserved, tick-early, tick-late}
+use Rattle.calls.proofs.TickRuns.{Led, led-idle, led-from, led-more, led-still, led-runs, runs-below, unstirred}
+use Rattle.calls.proofs.clock.ticked.Statement.{statement}
+use Rattle.calls.proofs.clock.ticked.Tie as tie
+
+abbrev Inv-loop : tie.InvT-loop
+Inv-loop k₀ n most m₀ least₀ i₀ k m least i =
+    (i ≤ most) × Made (tickTurn n) k₀ i k m × Led (k .tasks) (k₀ .counts .tasks) least
+
+abbrev μ-loop : tie.MeasureT-loop
+μ-loop k₀ n most m₀ least₀ i₀ k m least i = most - i
+
+-- ---- what is known on the way
+
+-- Where the instant that the tick comes to has been found.
+abbrev P : Type 0
+P = tie.After-plus Inv-loop μ-loop
+
+abbrev start : P → tie.Start Inv-loop μ-loop
+start p = p .before .before .before .before
+
+abbrev state : P → State
+state p = start p .args .t1
+
+abbrev moment : P → Instant
+moment p = p .plus .result
+
+good : (p : P) → Good (state p)
+good p = (start p .good .0 .0, start p .good .0 .1 .1)
+
+passes : (p : P) → valid day (state p) ≡ true
+passes p = start p .pre .0
+
+fits : (p : P) → state p .counts .tasks ≤ mostTasks
+fits p = tested day (state p) (passes p) .fits .tasks
+
+in-time : (p : P) → moment p .0 ≤ lastInstant
+in-time p = rw (p .plus .ensures) (omega (arith, p .before .if1 .left))
+
+runner-is : (p : P) {r : Running} → start p .args .r ≡ r → runningOf (state p .counts .tasks) (state p .tasks) ≡ r
+runner-is p e = sym (start p .pre .1) ∙ e
+
+-- Where a task runs.
+below : (c : tie.After-known-told Inv-loop μ-loop) → c .before .r .given .0 .0 < mostTasks
+below c =
+    let p = c .before .before .before .before .before .before in
+    let k = state p in
+    omega (arith, runs-below (k .tasks) (k .counts .tasks) (c .before .r .given .0 .0) (runner-is p (c .before .r .given .1)), fits p)
+
+-- Inside the loop.
+abbrev I : Type 0
+I = tie.In-loop Inv-loop μ-loop
+
+abbrev passed : I → P
+passed c = c .before .before .before .before .before .before
+
+inside : (c : I) → c .before .loop .i < mostTasks
+inside c = omega (arith, c .loop-test .taken, fits (passed c))
+
+less : (c : I) → c .before .loop .i < length (state (passed c) .tasks)
+less c = omega (arith, tasks-long (state (passed c)) (good (passed c)), inside c)
+
+-- A turn keeps the priority of a task in its limits.
+in-range : (c : I) (u : Turn) → u ≡ tickTurn (moment (passed c)) (taskAt (c .before .loop .k .tasks) (c .before .loop .i)) → u .task .current < 256
+in-range c u e =
+    let p = passed c in
+    let k = state p in
+    let i = c .before .loop .i in
+    let t = taskAt (k .tasks) i in
+    let h = task-untest day (k .counts) t (all-at (k .counts .tasks) _ (sound day k (passes p) .tasks) i (c .loop-test .taken)) in
+    let q = good-tick day (k .counts) (moment p) t (in-time p) h .ok .current-ok in
+    let x = tickTurn (moment p) t .task .current in
+    rw (e, task-now (tickTurn (moment p)) k i (less c) (c .before .loop .inv .1)) (omega (arith, leb-true x 255 (both (leb 1 x) (leb x 255) q .1)))
+
+-- Once task i has had its turn, or has been passed over.
+abbrev J : Type 0
+J = tie.Joined2 Inv-loop μ-loop
+
+abbrev here : J → I
+here c = c .before .before .before .before .before
+
+made : (c : J) → let l = here c in
+    Made (tickTurn (moment (passed l))) (state (passed l)) (l .before .loop .i + 1) (c .if2 .k) (c .if2 .m)
+made c =
+    let l = here c in
+    let k = state (passed l) in
+    let n = moment (passed l) in
+    let f = tickTurn n in
+    let i = l .before .loop .i in
+    let t = taskAt (l .before .loop .k .tasks) i in
+    ⊎-elim
+    (λ w. made-more f k i (less l) (l .before .loop .inv .1) (w .2 .result) (w .2 .ensures) (w .7) (w .8 ∙ w .4 .ensures))
+    (λ w. made-still f k i (less l) (l .before .loop .inv .1) (still n t (unstirred n t (sym (c .before .may-stir .ensures) ∙ w .0 .left))) (w .1) (w .2))
+    (c .if2 .came)
+
+led : (c : J) → let l = here c in Led (c .if2 .k .tasks) (state (passed l) .counts .tasks) (c .if2 .least)
+led c =
+    let l = here c in
+    let p = passed l in
+    let k = l .before .loop .k in
+    let h = l .before .loop .inv .2 in
+    ⊎-elim
+    (λ w.
+    led-more (moment p) (k .tasks) (state p .counts .tasks) (l .before .loop .i) (l .loop-test .taken) (fits p) (w .2 .result) (w .2 .ensures)
+    (in-range l (w .2 .result) (w .2 .ensures)) h (ap (λ (q : State). q .tasks) (w .7)) (w .5 .ensures) (w .9 ∙ w .6 .ensures))
+    (λ w. led-still h (ap (λ (q : State). q .tasks) (w .1)) (w .3))
+    (c .if2 .came)
+
+-- Once all have.
+all : (c : tie.After-loop Inv-loop μ-loop) → let p = c .before .before .before .before .before .before in
+    let k = state p in
+    let w = everyTurn k (moment p) (tickTurn (moment p)) in
+    (c .before .loop .k ≡ withState (w .tasks) (k .locks) (k .enabled) k) × (c .before .loop .m ≡ marksOf w)
+all c =
+    let l = c .before in
+    made-all (tickTurn _) _ _ (le-antisymm (l .loop .inv .0) (c .loop-test .left)) (l .loop .inv .1)
+
+-- Such a tick is not refused.
+accepted : (p : P) (d : Call) → let k = state p in
+    finish k (everyTurn k (moment p) (tickTurn (moment p))) ≡ orRefuse k (stateRefusalOf TI k d) (finish k (tick k))
+unfolding tick
+accepted p d =
+    let k = state p in
+    ap (λ (m : Instant). finish k (everyTurn k m (tickTurn m))) (p .plus .ensures) ∙ tick-early k d _ (p .before .if1 .left)
+
+-- ---- the needs
+
+answered-requires : tie.Need-answered-requires Inv-loop μ-loop
+answered-requires c κs = search needs
+
+returns : tie.Need-returns Inv-loop μ-loop
+returns c =
+    let s = c .before .before .before .before in
+    let k = s .args .t1 in
+    λ d. c .answered .ensures ∙ ap (λ (r : Running). refuse k 15 r) (s .pre .1) ∙ tick-late k d _ (c .before .if1 .taken)
+
+plus-requires : tie.Need-plus-requires Inv-loop μ-loop
+plus-requires c κs = search needs
+
+cast-most : tie.Need-cast-most Inv-loop μ-loop
+cast-most c = search needs
+
+only-granted-requires : tie.Need-only-granted-requires Inv-loop μ-loop
+only-granted-requires c κs = search needs
+
+enum-known-r : tie.Need-enum-known-r Inv-loop μ-loop
+enum-known-r c = search needs
+
+cast-at : tie.Need-cast-at Inv-loop μ-loop
+cast-at c = search needs
+
+mul-urgency-of : tie.Need-mul-urgency-of Inv-loop μ-loop
+mul-urgency-of c = omega (arith, below c)
+
+element-copy-out-urgency-of : tie.Need-element-copy-out-urgency-of Inv-loop μ-loop
+element-copy-out-urgency-of c = omega (arith, below c)
+
+urgency-of-requires : tie.Need-urgency-of-requires Inv-loop μ-loop
+urgency-of-requires c κs = below c
+
+enum-told : tie.Need-enum-told Inv-loop μ-loop
+enum-told c = search needs
+
+loop-holds : tie.Need-loop-holds Inv-loop μ-loop
+loop-holds c =
+    let p = c .before .before .before .before in
+    let k = state p in (
+      search needs,
+      rw (c .before .only-granted .ensures) (made-none _ _),
+      ⊎-elim
+          (λ w. led-from (k .tasks) (k .counts .tasks) (w .1 .given .0 .0) (bounds k (good p)) (runner-is p (w .1 .given .1)) (w .4 ∙ w .3 .ensures))
+          (λ w. led-idle (k .tasks) (k .counts .tasks) (bounds k (good p)) (runner-is p (w .1 .given .1)) (w .2))
+          (c .match .came),
+    )
+
+mul-t : tie.Need-mul-t Inv-loop μ-loop
+mul-t c = omega (arith, inside c)
+
+element-copy-out-t : tie.Need-element-copy-out-t Inv-loop μ-loop
+element-copy-out-t c = omega (arith, inside c)
+
+may-stir-requires : tie.Need-may-stir-requires Inv-loop μ-loop
+may-stir-requires c κs = search needs
+
+mul-whole : tie.Need-mul-whole Inv-loop μ-loop
+mul-whole c = omega (arith, inside (c .before .before .before .before .before))
+
+element-copy-out-whole : tie.Need-element-copy-out-whole Inv-loop μ-loop
+element-copy-out-whole c = omega (arith, inside (c .before .before .before .before .before))
+
+tick-requires : tie.Need-tick-requires Inv-loop μ-loop
+tick-requires c κs = omega (arith, in-time (passed (c .before .before .before .before .before .before)))
+
+mul-after : tie.Need-mul-after Inv-loop μ-loop
+mul-after c = omega (arith, inside (c .before .before .before .before .before .before .before .before))
+
+element-set-from-after : tie.Need-element-set-from-after Inv-loop μ-loop
+element-set-from-after c = omega (arith, inside (c .before .before .before .before .before .before .before .before))
+
+marked-requires : tie.Need-marked-requires Inv-loop μ-loop
+marked-requires c κs = omega (arith, inside (c .before .before .before .before .before .before .before .before))
+
+is-runnable-requires : tie.Need-is-runnable-requires Inv-loop μ-loop
+is-runnable-requires c κs = search needs
+
+nearest-requires : tie.Need-nearest-requires Inv-loop μ-loop
+nearest-requires c κs = omega (arith, inside (c .before .before .before .before .before .before .before .before .before .before))
+
+add-i : tie.Need-add-i Inv-loop μ-loop
+add-i c = omega (arith, inside (here c))
+
+loop-less : tie.Need-loop-less Inv-loop μ-loop
+loop-less c = search needs
+
+loop-again : tie.Need-loop-again Inv-loop μ-loop
+loop-again c = (search needs, made c, led c)
+
+task-of-requires : tie.Need-task-of-requires Inv-loop μ-loop
+task-of-requires c κs = search needs
+
+answer-of-requires : tie.Need-answer-of-requires Inv-loop μ-loop
+answer-of-requires c κs = search needs
+
+returns-2 : tie.Need-returns-2 Inv-loop μ-loop
+returns-2 c =
+    let a = c .before .before in
+    let p = a .before .before .before .before .before .before in
+    let k = state p in
+    let n = moment p in
+    let w = all a in
+    let r = c .before .task-of .ensures ∙ led-runs (a .before .loop .inv .2) (fits p) ∙ ap (λ (q : State). runningOf (k .counts .tasks) (q .tasks)) (w .0) in
+    let idle = every-idle day k (passes p) (tasks-long k (good p)) n (tickTurn n) (λ t. no-wait-tick t n) in
+    λ d. rw (c .answer-of .ensures) (every-unserved k n (tickTurn n) (ap (withNow n) (w .0)) (w .1) idle r) ∙ accepted p d
+
+pub ticked-spec : {M : Type 1} → statement M
+ticked-spec =
+    tie.close
+    (tie.spec
+    Inv-loop
+    μ-loop
+    answered-requires
+    returns
+    plus-requires
+    cast-most
+    only-granted-requires
+    enum-known-r
+    cast-at
+    mul-urgency-of
+    element-copy-out-urgency-of
+    urgency-of-requires
+    enum-told
+    loop-holds
+    mul-t
+    element-copy-out-t
+    may-stir-requires
+    mul-whole
+    element-copy-out-whole
+    tick-requires
+    mul-after
+    element-set-from-after
+    marked-requires
+    is-runnable-requires
+    nearest-requires
+    add-i
+    loop-less
+    loop-again
+    task-of-requires
+    answer-of-requires
+    returns-2)

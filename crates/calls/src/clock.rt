@@ -1,0 +1,172 @@
+// The calls that aren't about one task: TI and TG give every task its turn, EI and XI none.
+ghost use mathlib.Core.Path.{_≡_};
+ghost use mathlib.Core.Bool.{true};
+ghost use Prim.Native.Nat.{_≤_, _<_};
+ghost use Rattle.calendar.specs.Limits.{day, lastInstant};
+ghost use Rattle.task.specs.Turns.{triggerTurn};
+ghost use Rattle.machine.specs.State.{mostTasks, withState};
+ghost use Rattle.machine.specs.Running.{runner};
+ghost use Rattle.machine.specs.Test.{valid};
+ghost use Rattle.machine.specs.Refusals.{stateRefusalOf};
+ghost use Rattle.machine.specs.Work.{everyTurn};
+ghost use Rattle.machine.specs.Calls.{tick, trigger, enable};
+ghost use Rattle.machine.specs.Step.{finish, orRefuse};
+ghost use Rattle.survey.specs.Looks.{putIf, waitsOk};
+ghost use Rattle.serving.specs.Ends.{marksOf};
+ghost use Rattle.calls.specs.Stirring.{mayStir};
+ghost use Rattle.layout.specs.declared.Mark.{Mark};
+ghost use Rattle.layout.specs.declared.Call.{Call};
+use crate::declarations::answered;
+use calendar::Duration;
+use calendar::Instant;
+use calendar::LAST_INSTANT;
+use machine::Answer;
+use machine::Running;
+use machine::State;
+use machine::Stepped;
+use serving::ends::Marks;
+use serving::ends::done;
+use serving::ends::finished;
+use serving::ends::only_granted;
+use survey::scan::NOBODY;
+use survey::scan::nearest;
+use survey::scan::task_of;
+use survey::scan::urgency_of;
+use survey::sets::put_if;
+use task::Hold;
+use task::Turn;
+
+// A kernel at work, and the sets so far.
+pub struct Working {
+    pub state: State,
+    pub marks: Marks,
+}
+
+// The sets with task i's turn in them.
+fn marked(m: Marks, i: usize, u: Turn) -> Marks
+    requires { ⌜ i < mostTasks ⌝ }
+    ensures { λ r. ⌜ r ≡ record { due = putIf i (u .due) (m .due); started = putIf i (u .started) (m .started); ended = putIf i (u .ended) (m .ended); lost = putIf i (u .lost) (m .lost); granted = m .granted } ⌝ }
+{
+    Marks {
+        due: put_if(i, u.due, m.due),
+        started: put_if(i, u.started, m.started),
+        ended: put_if(i, u.ended, m.ended),
+        lost: put_if(i, u.lost, m.lost),
+        granted: m.granted,
+    }
+}
+
+// The answer to an accepted call after which the task r runs.
+fn answer_of(m: Marks, r: Running) -> Answer
+    ensures { λ a. ⌜ a ≡ record { number = 0; running = r; due = m .due; started = m .started; ended = m .ended; lost = m .lost; granted = m .granted } ⌝ }
+{
+    Answer {
+        number: 0,
+        running: r,
+        due: m.due,
+        started: m.started,
+        ended: m.ended,
+        lost: m.lost,
+        granted: m.granted,
+    }
+}
+
+// Whether a tick to n may stir a task, held so, with this next due.
+fn may_stir(hold: Hold, next: Instant, n: Instant) -> bool
+    ensures { λ r. ⌜ r ≡ mayStir n hold next ⌝ }
+{
+    match hold {
+        Hold::Unheld => next.0 == n.0,
+        Hold::Suspended => next.0 == n.0,
+        Hold::Delayed(_) => true,
+    }
+}
+
+// Each declared task's turn at a trigger of the enabled interrupt.
+pub(crate) fn trigger_all(mut k: State, interrupt: u8) -> Working
+    requires { ⌜ k .counts .tasks ≤ mostTasks ⌝ }
+    requires { ⌜ k .now .0 ≤ lastInstant ⌝ }
+    ensures { λ r. ⌜ (r .state ≡ withState (everyTurn k (k .now) (triggerTurn day (k .clock) (k .now) interrupt) .tasks) (k .locks) (k .enabled) k) × (r .marks ≡ marksOf (everyTurn k (k .now) (triggerTurn day (k .clock) (k .now) interrupt))) ⌝ }
+{
+    let counts = k.counts;
+    let most = counts.tasks as usize;
+    let n = k.now;
+    let clock = k.clock;
+    let mut m = only_granted(0);
+    for i in 0..most {
+        let t = k.tasks[i];
+        if t.listens_to(interrupt) {
+            let u = t.trigger(clock, n, interrupt);
+            let after = u.task;
+            k.tasks[i] = after;
+            m = marked(m, i, u);
+        }
+    }
+    Working { state: k, marks: m }
+}
+
+// Each declared task's turn at a tick: those that it may stir, since the others stay as they are. No turn makes a
+// task less urgent, so the task that ran or one that had its turn runs. No turn begins a wait, so nobody is served.
+pub(crate) fn ticked(mut k: State, r: Running) -> Stepped
+    requires { ⌜ valid day k ≡ true ⌝ }
+    requires { ⌜ r ≡ runner k ⌝ }
+    ensures { λ s. ⌜ ((c : Call) → s ≡ orRefuse k (stateRefusalOf Mark.TI k c) (finish k (tick k))) ⌝ }
+{
+    let now = k.now;
+    if LAST_INSTANT <= now.0 {
+        return answered(k, 15, r);
+    }
+    let n = now.plus(Duration(1));
+    let counts = k.counts;
+    let most = counts.tasks as usize;
+    let mut m = only_granted(0);
+    let mut least = NOBODY;
+    if let Running::Runs(j) = r {
+        let at = j as usize;
+        least = urgency_of(k.tasks[at].current, at);
+    }
+    for i in 0..most {
+        let t = k.tasks[i];
+        let hold = t.hold;
+        let schedule = t.schedule;
+        let alarm = schedule.alarm;
+        if may_stir(hold, alarm.next, n) {
+            let whole = k.tasks[i];
+            let u = whole.tick(n);
+            let after = u.task;
+            k.tasks[i] = after;
+            m = marked(m, i, u);
+            least = nearest(least, after.is_runnable(), after.current, i);
+        }
+    }
+    k.now = n;
+    k.begun = true;
+    Stepped {
+        state: k,
+        answer: answer_of(m, task_of(least)),
+    }
+}
+
+pub(crate) fn triggered(k: State, i: u8) -> Stepped
+    requires { ⌜ valid day k ≡ true ⌝ }
+    requires { ⌜ i < k .counts .interrupts ⌝ }
+    ensures { λ s. ⌜ s ≡ finish k (trigger day k i) ⌝ }
+{
+    let at = i as usize;
+    if k.enabled[at] {
+        let w = trigger_all(k, i);
+        let m = w.marks;
+        return finished(w.state, m);
+    }
+    done(k)
+}
+
+// ENABLE and DISABLE.
+pub(crate) fn enabled_as(mut k: State, i: usize, b: bool) -> Stepped
+    requires { ⌜ waitsOk k ≡ true ⌝ }
+    requires { ⌜ i < k .counts .interrupts ⌝ }
+    ensures { λ s. ⌜ s ≡ finish k (enable k i b) ⌝ }
+{
+    k.enabled[i] = b;
+    done(k)
+}

@@ -1,0 +1,67 @@
+// A kernel in which nothing is declared.
+ghost use mathlib.Core.Path.{_≡_};
+ghost use Rattle.lock.specs.Locks.{emptyBolt};
+ghost use Rattle.machine.specs.State.{freshTask, nothing};
+use calendar::Instant;
+use lock::Bolt;
+use lock::Locks;
+use lock::Wait;
+use machine::Counts;
+use machine::State;
+use task::Hold;
+use task::Kept;
+use task::Schedule;
+use task::Task;
+
+// A task just declared: not alive, at its own priority, without a schedule.
+pub(crate) fn fresh_task(p: u8) -> Task
+    ensures { λ r. ⌜ r ≡ freshTask p ⌝ }
+{
+    Task {
+        declared: p,
+        current: p,
+        alive: false,
+        kept: Kept::Empty,
+        wait: Wait::Nothing,
+        len: 0,
+        list: [0; 4],
+        hold: Hold::Unheld,
+        schedule: Schedule::none(),
+    }
+}
+
+pub(crate) fn empty_bolt() -> Bolt
+    ensures { λ r. ⌜ r ≡ emptyBolt ⌝ }
+{
+    Bolt {
+        writer: false,
+        readers: 0,
+    }
+}
+
+// Nothing is declared.
+pub fn fresh() -> State
+    ensures { λ r. ⌜ r ≡ nothing ⌝ }
+{
+    let bolt = empty_bolt();
+    let task = fresh_task(0);
+    let locks = Locks {
+        semaphores: [0; 16],
+        bolts: [bolt; 16],
+    };
+    let counts = Counts {
+        tasks: 0,
+        semaphores: 0,
+        bolts: 0,
+        interrupts: 0,
+    };
+    State {
+        tasks: [task; 32],
+        locks,
+        enabled: [false; 8],
+        counts,
+        clock: 0,
+        now: Instant(0),
+        begun: false,
+    }
+}

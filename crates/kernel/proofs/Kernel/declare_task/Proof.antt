@@ -1,0 +1,12 @@
+-- The call with these fields.
+use Rattle.kernel.proofs.Kernel.declare_task.Statement.{statement}
+use Rattle.kernel.proofs.Kernel.declare_task.Tie as tie
+
+plain-requires : tie.Need-plain-requires
+plain-requires c κs = tt
+
+returns : tie.Need-returns
+returns c = c .plain .ensures
+
+pub declare-task-spec : {M : Type 1} → statement M
+declare-task-spec = tie.close (tie.spec plain-requires returns)

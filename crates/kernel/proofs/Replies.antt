@@ -1,0 +1,22 @@
+-- From what a callee replies to what its caller replies.
+use mathlib.Core.Path.{_≡_, ap, _∙_}
+use mathlib.Core.List.{List}
+use Prim.Native.Nat.{ℕ}
+use Rattle.calendar.specs.Limits.{day}
+use Rattle.layout.specs.Fields.{FourPlaces, bytesOf}
+use Rattle.layout.specs.declared.Call.{Call}
+use Rattle.machine.specs.Step.{step, carry}
+use Rattle.machine.specs.declared.State.{State}
+use Rattle.machine.specs.declared.Stepped.{Stepped}
+use Rattle.machine.proofs.Joined.{step-is-carry}
+use Rattle.kernel.specs.Reply.{reply}
+use Rattle.kernel.specs.declared.Reply.{Reply}
+
+-- A step, handed on.
+pub step-replies : (s t : Stepped) → t ≡ s → reply t ≡ reply s
+step-replies s t e = ap reply e
+
+-- A call, by its record.
+pub record-replies :
+    (k : State) (c : Call) (s : List ℕ) (r : Reply) → FourPlaces c → s ≡ bytesOf c → r ≡ reply (step day k s) → r ≡ reply (carry day k c)
+record-replies k c s r four e f = f ∙ ap (λ b. reply (step day k b)) e ∙ ap reply (step-is-carry day k c four)

@@ -1,0 +1,50 @@
+// A kernel handed on: made, asked, and stepped by bytes or by a call.
+ghost use mathlib.Core.Path.{_≡_};
+ghost use Rattle.calendar.specs.Limits.{day};
+ghost use Rattle.machine.specs.State.{nothing};
+ghost use Rattle.machine.specs.Running.{runner};
+ghost use Rattle.machine.specs.Step.{step, carry};
+ghost use Rattle.kernel.specs.Reply.{reply};
+use crate::Kernel;
+use crate::Reply;
+use calls::fresh::fresh;
+use calls::step::step;
+use layout::Call;
+use layout::fields::bytes_of;
+use machine::Running;
+use survey::scan::running;
+
+impl Kernel {
+    // Nothing is declared.
+    pub fn fresh() -> Kernel
+        ensures { λ r. ⌜ r .state ≡ nothing ⌝ }
+    {
+        Kernel { state: fresh() }
+    }
+
+    // The running task, or none.
+    pub fn running(self) -> Running
+        ensures { λ r. ⌜ r ≡ runner (self .state) ⌝ }
+    {
+        running(self.state)
+    }
+
+    // The machine's step over bytes of any length.
+    pub fn step(self, s: &[u8]) -> Reply
+        ensures { λ r. ⌜ r ≡ reply (step day (self .state) (now (s .entry))) ⌝ }
+    {
+        let stepped = step(self.state, s);
+        let state = stepped.state;
+        let answer = stepped.answer;
+        let kernel = Kernel { state };
+        Reply { kernel, answer }
+    }
+
+    // A call or declaration, by its record.
+    pub(crate) fn carry(self, c: Call) -> Reply
+        ensures { λ r. ⌜ r ≡ reply (carry day (self .state) c) ⌝ }
+    {
+        let record = bytes_of(c);
+        self.step(&record)
+    }
+}

@@ -1,0 +1,216 @@
+-- Steps on two kernels that differ at most in places beyond the counts match.
+use mathlib.Core.Path.{_≡_, refl, sym, subst}
+use mathlib.Core.Bool.{Bool, true, false}
+use mathlib.Core.List.{List, [], _∷_}
+use Prim.Native.Nat.{ℕ, zero, suc, _<_}
+use lib.Dec.{ltb}
+use borrow.Author.Tests.{ltb-true}
+use Rattle.calendar.specs.Times.{duration, plus}
+use Rattle.layout.specs.declared.Mark.{Mark}
+use Rattle.layout.specs.declared.Mark.the-variants.{DT, DS, DB, IT, DC, AC, TE, SU, PR, CO, EN, RE, RQ, RL, TR, RS, FR, ET, LV, TG, EI, XI, TI}
+use Rattle.layout.specs.declared.Call.{Call}
+use Rattle.lock.specs.Locks.{emptyBolt}
+use Rattle.lock.specs.declared.Wait.the-variants.{Request, Reserve, Enter}
+use Rattle.lock.specs.declared.Locks.{Locks}
+use Rattle.lock.proofs.Bools.{byBool, both}
+use Rattle.lock.proofs.Tables.{Like, like-add}
+use Rattle.lock.proofs.Alike.{Alike, Seen}
+use Rattle.task.specs.State.{noTask}
+use Rattle.task.specs.Turns.{endTurn, preventTurn, suspendTurn, continueTurn, resumeTurn}
+use Rattle.task.specs.declared.Task.{Task}
+use Rattle.task.specs.declared.Turn.{Turn}
+use Rattle.task.proofs.Waits.{NoNewWait, no-wait-end, no-wait-prevent, no-wait-suspend, no-wait-continue, no-wait-resume}
+use Rattle.machine.specs.declared.Counts.{Counts}
+use Rattle.machine.specs.declared.State.{State}
+use Rattle.machine.specs.State.{mostTasks, mostSemaphores, mostBolts, mostInterrupts, freshTask, withState, withClock}
+use Rattle.machine.specs.Running.{runner}
+use Rattle.machine.specs.Work.{Work, turnOf}
+use Rattle.machine.specs.Serving.{Served, serve}
+use Rattle.machine.specs.Test.{valid}
+use Rattle.machine.specs.Refusals.{declaredIn, roomFor, refusalOf}
+use Rattle.machine.specs.Calls.{addTask, addSemaphore, addBolt, addInterrupt, activateTurn}
+use Rattle.machine.specs.Step.{refuse, finish, declared, orRefuse, carryOut, carryOn, stepRead, step}
+use Rattle.machine.specs.Log.{log}
+use Rattle.machine.specs.Beyond.{Agree, Match, StepsAgree, LogsAgree}
+use Rattle.machine.proofs.Passed.{passed, Fits, Tested, tested, room-task, room-semaphore, room-bolt, room-interrupt}
+use Rattle.machine.proofs.Cases.{opened-cases}
+use Rattle.machine.proofs.Looks.{running-same, valid-same, runner-same, refusal-same}
+use Rattle.machine.proofs.Pairs.{Pair, serve-pair}
+use Rattle.machine.proofs.WorkPairs.{WorkPair, give-pair, enable-pair, turn-pair, runner-pair, tick-pair, trigger-pair, ask-pair, no-wait-activate}
+
+-- Two kernels with the same counts agree where their tables are alike.
+pub alike-agree : (k : State) (ts : List Task) (r : Locks) (is : List Bool) → Like noTask mostTasks (k .counts .tasks) (k .tasks) ts
+    → Alike mostSemaphores mostBolts (k .counts .semaphores) (k .counts .bolts) (k .locks) r
+    → Like false mostInterrupts (k .counts .interrupts) (k .enabled) is → Agree k (withState ts r is k)
+alike-agree k ts r is a b c =
+    record {
+      counts = refl;
+      clock = refl;
+      now = refl;
+      begun = refl;
+      tasks = a .below;
+      semaphores = b .semaphores .below;
+      bolts = b .bolts .below;
+      enabled = c .below;
+      tables = record { tasks = a .long; semaphores = b .semaphores .long; bolts = b .bolts .long; enabled = c .long };
+      tables′ = record { tasks = a .long′; semaphores = b .semaphores .long′; bolts = b .bolts .long′; enabled = c .long′ };
+    }
+
+abbrev served : Work → Served
+served w = record { tasks = w .tasks; locks = w .locks; granted = w .granted }
+
+module _ (day : ℕ) (k : State) (ts : List Task) (r : Locks) (is : List Bool) (a : Agree k (withState ts r is k)) where
+  abbrev n : Counts
+  n = k .counts
+
+  abbrev k′ : State
+  k′ = withState ts r is k
+
+  tasks : Like noTask mostTasks (n .tasks) (k .tasks) ts
+  tasks = record { long = a .tables .tasks; long′ = a .tables′ .tasks; below = a .tasks }
+
+  locks : Alike mostSemaphores mostBolts (n .semaphores) (n .bolts) (k .locks) r
+  locks =
+      record {
+        semaphores = record { long = a .tables .semaphores; long′ = a .tables′ .semaphores; below = a .semaphores };
+        bolts = record { long = a .tables .bolts; long′ = a .tables′ .bolts; below = a .bolts };
+      }
+
+  ints : Like false mostInterrupts (n .interrupts) (k .enabled) is
+  ints = record { long = a .tables .enabled; long′ = a .tables′ .enabled; below = a .enabled }
+
+  sees : Seen (n .semaphores) (n .bolts) (k .locks) r
+  sees = record { values = a .semaphores; bolts = a .bolts }
+
+  same-runner : runner k ≡ runner k′
+  same-runner = runner-same k ts r is (a .tasks) sees
+
+  refuse-match : (m : ℕ) → Match (refuse k m (runner k)) (refuse k′ m (runner k′))
+  unfolding refuse
+  refuse-match m = record { answer = rw same-runner; state = a }
+
+  declared-match : (d d′ : State) → Agree d d′ → Match (declared k d) (declared k′ d′)
+  unfolding declared
+  declared-match d d′ b = record { answer = rw same-runner; state = b }
+
+  module _ (f : Fits n) where
+    finish-match : (w w′ : Work) → WorkPair n w w′ → Match (finish k w) (finish k′ w′)
+    unfolding finish
+    finish-match w w′ q =
+        let z = serve (n .tasks) (n .tasks) (served w) in
+        let z′ = serve (n .tasks) (n .tasks) (served w′) in
+        let (p, g) = serve-pair n f (n .tasks) (served w) (served w′) (q .pair, q .granted) in
+        let e = running-same n (z .tasks) (z′ .tasks) (p .tasks .below) in
+        record {
+          answer = λ i. record {
+            number = 0;
+            running = e i;
+            due = q .due i;
+            started = q .started i;
+            ended = q .ended i;
+            lost = q .lost i;
+            granted = g i;
+          };
+          state = rw (← q .now) (alike-agree (finish k w .state) _ _ _ (p .tasks) (p .locks) (q .enabled));
+        }
+
+    -- ---- declarations
+
+    add-task : (p : ℕ) → n .tasks < mostTasks → Agree (addTask p k) (addTask p k′)
+    unfolding addTask
+    add-task p l = alike-agree (addTask p k) _ _ _ (like-add noTask mostTasks (n .tasks) (k .tasks) ts tasks l (freshTask p)) locks ints
+
+    add-semaphore : (v : ℕ) → n .semaphores < mostSemaphores → Agree (addSemaphore v k) (addSemaphore v k′)
+    unfolding addSemaphore
+    add-semaphore v l =
+        alike-agree (addSemaphore v k) _ _ _ tasks
+        (record { semaphores = like-add 0 mostSemaphores (n .semaphores) (k .locks .semaphores) (r .semaphores) (locks .semaphores) l v; bolts = locks .bolts }) ints
+
+    add-bolt : n .bolts < mostBolts → Agree (addBolt k) (addBolt k′)
+    unfolding addBolt
+    add-bolt l =
+        alike-agree (addBolt k) _ _ _ tasks
+        (record { semaphores = locks .semaphores; bolts = like-add emptyBolt mostBolts (n .bolts) (k .locks .bolts) (r .bolts) (locks .bolts) l emptyBolt }) ints
+
+    add-interrupt : n .interrupts < mostInterrupts → Agree (addInterrupt k) (addInterrupt k′)
+    unfolding addInterrupt
+    add-interrupt l =
+        alike-agree (addInterrupt k) _ _ _ tasks locks (like-add false mostInterrupts (n .interrupts) (k .enabled) is ints l false)
+
+    -- ---- accepted records
+
+    module _ (t : Tested k) where
+      pair : Pair n (k .tasks) ts (k .locks) r
+      pair = record { tasks = tasks; locks = locks; listed = t .listed }
+
+      turn-match : (turn : Task → Turn) → ((t : Task) → NoNewWait t (turn t .task)) → (i : ℕ) → ltb i (n .tasks) ≡ true
+          → Match (finish k (turnOf k i turn)) (finish k′ (turnOf k′ i turn))
+      turn-match turn h i e = finish-match _ _ (turn-pair k ts r is f pair ints turn h i (ltb-true i (n .tasks) e))
+
+      out-match : (m : Mark) (c : Call) → declaredIn m n c ≡ true → roomFor m n ≡ true → Match (carryOut day m k c) (carryOut day m k′ c)
+      unfolding carryOut declaredIn
+      out-match DT c e o = declared-match _ _ (add-task _ (room-task n o))
+      out-match DS c e o = declared-match _ _ (add-semaphore _ (room-semaphore n o))
+      out-match DB c e o = declared-match _ _ (add-bolt (room-bolt n o))
+      out-match IT c e o = declared-match _ _ (add-interrupt (room-interrupt n o))
+      out-match DC c e o = declared-match _ _ (alike-agree (withClock (c .head .first) k) ts r is tasks locks ints)
+      out-match AC c e o =
+          turn-match (activateTurn day (k .clock) (k .now) (c .head)) (no-wait-activate day (k .clock) (k .now) (c .head)) (c .head .number)
+          (both (ltb (c .head .number) (n .tasks)) _ e .0)
+      out-match TE c e o = turn-match endTurn no-wait-end (c .head .number) e
+      out-match SU c e o = turn-match suspendTurn no-wait-suspend (c .head .number) e
+      out-match PR c e o = turn-match preventTurn no-wait-prevent (c .head .number) e
+      out-match CO c e o = turn-match (continueTurn (c .head .priority)) (λ t. no-wait-continue t (c .head .priority)) (c .head .number) e
+      out-match EN c e o = finish-match _ _ (runner-pair k ts r is f pair ints endTurn no-wait-end)
+      out-match RE c e o = finish-match _ _ (runner-pair k ts r is f pair ints (resumeTurn (plus (k .now) (duration (c .head .first)))) (λ t. no-wait-resume t _))
+      out-match RQ c e o = finish-match _ _ (ask-pair k ts r is f pair ints true Request c e)
+      out-match RL c e o = finish-match _ _ (give-pair k ts r is f pair ints Request c)
+      out-match TR c e o = finish-match _ _ (ask-pair k ts r is f pair ints false Request c e)
+      out-match RS c e o = finish-match _ _ (ask-pair k ts r is f pair ints true Reserve c e)
+      out-match FR c e o = finish-match _ _ (give-pair k ts r is f pair ints Reserve c)
+      out-match ET c e o = finish-match _ _ (ask-pair k ts r is f pair ints true Enter c e)
+      out-match LV c e o = finish-match _ _ (give-pair k ts r is f pair ints Enter c)
+      out-match TG c e o = finish-match _ _ (trigger-pair k ts r is f pair ints day (c .head .number) (ltb-true _ (n .interrupts) e))
+      out-match EI c e o = finish-match _ _ (enable-pair k ts r is f pair ints (c .head .number) true)
+      out-match XI c e o = finish-match _ _ (enable-pair k ts r is f pair ints (c .head .number) false)
+      out-match TI c e o = finish-match _ _ (tick-pair k ts r is f pair ints)
+
+      on-match : (c : Call) → Match (carryOn day k c) (carryOn day k′ c)
+      unfolding carryOn
+      on-match c = rw (← refusal-same k ts r is (a .tasks) sees day c) (go (refusalOf day k c) refl)
+        where
+          go : (m : ℕ) → refusalOf day k c ≡ m
+              → Match (orRefuse k m (carryOut day (c .head .mark) k c)) (orRefuse k′ m (carryOut day (c .head .mark) k′ c))
+          go zero e = let q = passed day k c e .0 in out-match (c .head .mark) c (q .known) (q .room)
+          go (suc m) e = refuse-match (suc m)
+
+  step-match : (s : List ℕ) → Match (step day k s) (step day k′ s)
+  unfolding step
+  step-match s =
+      rw (← valid-same k ts r is (a .tasks) sees day)
+      (byBool (valid day k)
+      (λ v. let t = tested day k v in rw v
+      (opened-cases s (λ o. Match (stepRead day k (o .answer) (o .list)) (stepRead day k′ (o .answer) (o .list))) (refuse-match 2) (on-match (t .fits) t)))
+      (λ v. rw v (unfold refuse in record { answer = refl; state = a })))
+
+-- A kernel that agrees with k is k with other tables.
+pub steps-agree : StepsAgree
+steps-agree day k k′ a s =
+    let e : withState (k′ .tasks) (k′ .locks) (k′ .enabled) k ≡ k′ = λ i. record {
+      tasks = k′ .tasks;
+      locks = k′ .locks;
+      enabled = k′ .enabled;
+      counts = a .counts i;
+      clock = a .clock i;
+      now = a .now i;
+      begun = a .begun i;
+    } in
+    subst (λ (z : State). Match (step day k s) (step day z s)) e
+    (step-match day k (k′ .tasks) (k′ .locks) (k′ .enabled) (subst (λ (z : State). Agree k z) (sym e) a) s)
+
+pub logs-agree : LogsAgree
+unfolding log
+logs-agree day k k′ a [] = refl
+logs-agree day k k′ a (s ∷ rs) =
+    let m = steps-agree day k k′ a s in
+    rw (m .answer, logs-agree day (step day k s .state) (step day k′ s .state) (m .state) rs)

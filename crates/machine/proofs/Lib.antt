@@ -1,0 +1,37 @@
+-- Laws of the machine's definitions.
+pub mod Sets
+pub mod Below
+pub mod Urgency
+pub mod Passed
+pub mod Cases
+pub mod Rows
+-- The kernel test as facts, and what keeps it.
+pub mod Facts
+pub mod Schedules
+pub mod Turns
+pub mod Accepting
+pub mod Marks
+pub mod Works
+pub mod Done
+pub mod Serving
+pub mod Keeping
+pub mod Declaring
+pub mod Invariants
+-- Proofs of the promises.
+pub mod Refused
+pub mod Answers
+pub mod Whole
+pub mod Serves
+pub mod Joined
+pub mod Order
+pub mod Looks
+pub mod Pairs
+pub mod WorkPairs
+pub mod Beyond
+pub mod Quiet
+-- Proofs of the marked cases.
+pub mod Computing
+pub mod Waits
+pub mod Evening
+pub mod Marked
+pub mod Slips

@@ -1,0 +1,167 @@
+-- The running task, the test of a kernel and refusals look only at what is declared.
+use mathlib.Core.Path.{_≡_, refl, ap}
+use mathlib.Core.Bool.{Bool, true, false, not, _&&_}
+use mathlib.Core.List.{List}
+use Prim.Native.Nat.{ℕ, zero, suc, _<_}
+use native.Mathlib.Omega.{arith}
+use lib.Dec.{leb, ltb, eqb}
+use borrow.Author.Tests.{ltb-true}
+use Rattle.calendar.specs.Limits.{lastInstant, isTimeOfDay}
+use Rattle.record.specs.Refusals.{mostValue, named, unless, before}
+use Rattle.layout.specs.declared.Mark.{Mark}
+use Rattle.layout.specs.declared.Mark.the-variants.{DT, DS, DB, IT, DC, AC, TE, SU, PR, CO, EN, RE, RQ, RL, TR, RS, FR, ET, LV, TG, EI, XI, TI}
+use Rattle.layout.specs.declared.Call.{Call}
+use Rattle.lock.specs.Locks.{waiting, free, taken, every, valueAt, boltAt}
+use Rattle.lock.specs.declared.Wait.{Wait}
+use Rattle.lock.specs.declared.Wait.the-variants.{Nothing, Request, Reserve, Enter}
+use Rattle.lock.specs.declared.Locks.{Locks}
+use Rattle.lock.proofs.Bools.{both}
+use Rattle.lock.proofs.Lists.{every-below}
+use Rattle.lock.proofs.Alike.{below, Seen, free-same, taken-same}
+use Rattle.task.specs.State.{unheld, suspended, wanted}
+use Rattle.task.specs.declared.Task.{Task}
+use Rattle.machine.specs.declared.Counts.{Counts}
+use Rattle.machine.specs.declared.State.{State}
+use Rattle.machine.specs.State.{taskAt, countOf, withState}
+use Rattle.machine.specs.Running.{urgency, runningOf, runner}
+use Rattle.machine.specs.Granting.{couldBeGranted, servable}
+use Rattle.machine.specs.Test.{taskOk, allBelow, countsOk, nobodyServable, valid}
+use Rattle.machine.specs.Refusals.{listDeclared, declaredIn, formalRefusal, stateRefusalOf, refusalOf}
+use Rattle.machine.proofs.Urgency.{scan-same}
+use Rattle.machine.proofs.Below.{all-at}
+use Rattle.machine.proofs.Passed.{formal, Listed, listed-task}
+
+pub count-below : (n : Counts) (w : Wait) → countOf n w ≡ below (n .semaphores) (n .bolts) w
+count-below n Nothing = refl
+count-below n Request = refl
+count-below n Reserve = refl
+count-below n Enter = refl
+
+pub and-then : (a b b′ : Bool) → (a ≡ true → b ≡ b′) → (a && b) ≡ (a && b′)
+and-then true b b′ h = h refl
+and-then false b b′ h = refl
+
+before-then : (n m m′ : ℕ) → (n ≡ 0 → m ≡ m′) → before n m ≡ before n m′
+before-then zero m m′ h = h refl
+before-then (suc n) m m′ h = refl
+
+all-same : (n : ℕ) (f g : ℕ → Bool) → ((i : ℕ) → i < n → f i ≡ g i) → allBelow n f ≡ allBelow n g
+unfolding allBelow
+all-same zero f g h = refl
+all-same (suc n) f g h = rw (all-same n f g (λ i l. h i (omega arith)), h n (omega arith))
+
+module _ (n : Counts) (ts ts′ : List Task) (same : (i : ℕ) → i < n .tasks → taskAt ts i ≡ taskAt ts′ i) where
+  pub urgency-same : (i : ℕ) → i < n .tasks → urgency ts i ≡ urgency ts′ i
+  unfolding urgency
+  urgency-same i l = rw (same i l)
+
+  pub running-same : runningOf (n .tasks) ts ≡ runningOf (n .tasks) ts′
+  unfolding runningOf
+  running-same = scan-same (n .tasks) _ _ _ _ (λ i l. rw (same i l)) urgency-same
+
+  module _ (r r′ : Locks) (seen : Seen (n .semaphores) (n .bolts) r r′) where
+    pub could-same : (q : ℕ) (w : Wait) (l : List ℕ) → every (λ x. ltb x (countOf n w)) l ≡ true
+        → couldBeGranted (n .tasks) ts r q w l ≡ couldBeGranted (n .tasks) ts′ r′ q w l
+    unfolding couldBeGranted
+    could-same q w l e =
+        every-below (free w r) (free w r′) (countOf n w) l e (λ x lt. free-same _ _ r r′ seen w x (rw (count-below n w) at lt))
+
+    pub servable-same : (i : ℕ) → i < n .tasks → Listed n (taskAt ts i) → servable (n .tasks) ts r i ≡ servable (n .tasks) ts′ r′ i
+    servable-same i l h =
+        let t = taskAt ts i in
+        rw (← same i l) (and-then (waiting (t .wait)) _ _ (λ w. could-same (t .current) (t .wait) (wanted t) (h w)))
+
+    pub taken-all-same : (w : Wait) (l : List ℕ) → every (λ x. ltb x (countOf n w)) l ≡ true → every (taken w r) l ≡ every (taken w r′) l
+    taken-all-same w l e =
+        every-below (taken w r) (taken w r′) (countOf n w) l e (λ x lt. taken-same _ _ r r′ seen w x (rw (count-below n w) at lt))
+
+-- ---- the test of a kernel, in three parts
+
+abbrev limitsOk : ℕ → State → Bool
+limitsOk day k =
+    leb (k .now .0) lastInstant
+    && isTimeOfDay day (k .clock)
+    && countsOk (k .counts)
+    && allBelow (k .counts .semaphores) (λ s. leb (valueAt (k .locks) s) mostValue)
+    && allBelow (k .counts .bolts) (λ b. leb (boltAt (k .locks) b .readers) mostValue)
+
+abbrev tasksOk : ℕ → State → Bool
+tasksOk day k = allBelow (k .counts .tasks) (λ i. taskOk day (k .counts) (taskAt (k .tasks) i))
+
+in-parts : (day : ℕ) (k : State) → valid day k ≡ (limitsOk day k && tasksOk day k && nobodyServable k)
+unfolding valid
+in-parts day k = refl
+
+-- ---- a kernel and one with other tables
+
+module _ (k : State) (ts : List Task) (r : Locks) (is : List Bool)
+    (same : (i : ℕ) → i < k .counts .tasks → taskAt (k .tasks) i ≡ taskAt ts i)
+    (seen : Seen (k .counts .semaphores) (k .counts .bolts) (k .locks) r) where
+  abbrev k′ : State
+  k′ = withState ts r is k
+
+  limits-same : (day : ℕ) → limitsOk day k ≡ limitsOk day k′
+  limits-same day =
+      rw (
+        all-same (k .counts .semaphores) (λ s. leb (valueAt (k .locks) s) mostValue) (λ s. leb (valueAt r s) mostValue) (λ s l. rw (seen .values s l)),
+        all-same (k .counts .bolts) (λ b. leb (boltAt (k .locks) b .readers) mostValue) (λ b. leb (boltAt r b .readers) mostValue) (λ b l. rw (seen .bolts b l)),
+      )
+
+  tasks-same : (day : ℕ) → tasksOk day k ≡ tasksOk day k′
+  tasks-same day = all-same (k .counts .tasks) _ _ (λ i l. rw (same i l))
+
+  nobody-same : ((i : ℕ) → i < k .counts .tasks → Listed (k .counts) (taskAt (k .tasks) i)) → nobodyServable k ≡ nobodyServable k′
+  unfolding nobodyServable
+  nobody-same h =
+      all-same (k .counts .tasks) _ _ (λ i l. ap not (servable-same (k .counts) (k .tasks) ts same (k .locks) r seen i l (h i l)))
+
+  pub valid-same : (day : ℕ) → valid day k ≡ valid day k′
+  valid-same day =
+      rw (in-parts day k, in-parts day k′, ← limits-same day, ← tasks-same day)
+      (and-then (limitsOk day k && tasksOk day k) (nobodyServable k) (nobodyServable k′)
+      (λ e. nobody-same (λ i l. listed-task day (k .counts) (taskAt (k .tasks) i)
+      (all-at (k .counts .tasks) _ (both (limitsOk day k) (tasksOk day k) e .1) i l))))
+
+  pub runner-same : runner k ≡ runner k′
+  runner-same = running-same (k .counts) (k .tasks) ts same
+
+  -- ---- refusals 8 to 15
+
+  task-same : (i : ℕ) → ltb i (k .counts .tasks) ≡ true → taskAt (k .tasks) i ≡ taskAt ts i
+  task-same i e = same i (ltb-true i (k .counts .tasks) e)
+
+  gives-same : (w : Wait) (c : Call) → listDeclared (k .counts) w c ≡ true → every (taken w (k .locks)) (named c) ≡ every (taken w r) (named c)
+  gives-same w c e = taken-all-same (k .counts) (k .tasks) ts same (k .locks) r seen w (named c) e
+
+  state-same : (m : Mark) (c : Call) → declaredIn m (k .counts) c ≡ true → stateRefusalOf m k c ≡ stateRefusalOf m k′ c
+  unfolding stateRefusalOf declaredIn
+  state-same DT c e = refl
+  state-same DS c e = refl
+  state-same DB c e = refl
+  state-same IT c e = refl
+  state-same DC c e = refl
+  state-same AC c e =
+      ap (λ (t : Task). unless (not (eqb (c .head .kind) 0 && t .alive)) 9 0)
+      (task-same (c .head .number) (both (ltb (c .head .number) (k .counts .tasks)) _ e .0))
+  state-same TE c e = ap (λ (t : Task). unless (t .alive) 10 0) (task-same (c .head .number) e)
+  state-same SU c e = ap (λ (t : Task). unless (t .alive) 10 (unless (not (suspended (t .hold))) 11 0)) (task-same (c .head .number) e)
+  state-same PR c e = refl
+  state-same CO c e = ap (λ (t : Task). unless (t .alive) 10 (unless (not (unheld (t .hold))) 12 0)) (task-same (c .head .number) e)
+  state-same EN c e = rw runner-same
+  state-same RE c e = rw runner-same
+  state-same RQ c e = rw runner-same
+  state-same RL c e = rw (runner-same, gives-same Request c e)
+  state-same TR c e = rw runner-same
+  state-same RS c e = rw runner-same
+  state-same FR c e = rw (runner-same, gives-same Reserve c e)
+  state-same ET c e = rw runner-same
+  state-same LV c e = rw (runner-same, gives-same Enter c e)
+  state-same TG c e = refl
+  state-same EI c e = refl
+  state-same XI c e = refl
+  state-same TI c e = refl
+
+  pub refusal-same : (day : ℕ) (c : Call) → refusalOf day k c ≡ refusalOf day k′ c
+  unfolding refusalOf
+  refusal-same day c =
+      before-then (formalRefusal day (k .counts) (k .begun) c) _ _ (λ e. state-same (c .head .mark) c (formal day (k .counts) (k .begun) c e .known))

@@ -1,0 +1,106 @@
+-- The marked cases hold: what is short is computed, long rows of ticks go by the law of quiet ticks.
+use mathlib.Core.Path.{_≡_, refl, ap, _∙_}
+use mathlib.Core.Bool.{true}
+use mathlib.Core.List.{List, [], _∷_, _++_}
+use Prim.Native.Nat.{ℕ, _+_, _≤_, _^_}
+use native.Mathlib.Omega.{arith}
+use Rattle.calendar.specs.Limits.{day, lastInstant}
+use Rattle.task.specs.State.{noSchedule}
+use Rattle.task.specs.declared.Kept.the-variants.{Empty}
+use Rattle.machine.specs.declared.State.{State}
+use Rattle.machine.specs.declared.Running.the-variants.{Idle, Runs}
+use Rattle.machine.specs.State.{nothing}
+use Rattle.machine.specs.Running.{runner}
+use Rattle.machine.specs.Test.{valid}
+use Rattle.machine.specs.Step.{plainAnswer}
+use Rattle.machine.specs.Scripts.{row, hours, declareTask, declareClock, oneTick, AT_ALL_UNTIL_ACTIVATE_}
+use Rattle.machine.specs.Quiet.{Quiet, later, QuietTicks}
+use Rattle.machine.specs.Marked.{answers, after, line, quiet, MarkedCases}
+use Rattle.machine.proofs.Computing.{computed}
+use Rattle.machine.proofs.Quiet.{ticks-are-quiet}
+use Rattle.machine.proofs.Waits.{from, answers-append, quiet-then, only, lone, awake, lone-answers}
+use Rattle.machine.proofs.Evening.{noon-lines, late-lines}
+
+-- ---- M4
+
+atOnce : List (List ℕ)
+atOnce = declareTask 5 ∷ declareClock (hours 12) ∷ (AT hours 12 ALL hours 1 UNTIL hours 12 ACTIVATE 0) ∷ []
+
+-- The schedule is gone after its only due.
+gone : after atOnce ≡ lone (hours 12) 0 (only true Empty noSchedule)
+unfolding computed atOnce lone
+gone = refl
+
+due-at-once : answers atOnce ≡ quiet Idle ∷ quiet Idle ∷ line 0 (Runs 0) 1 1 0 0 0 ∷ []
+unfolding computed atOnce
+due-at-once = refl
+
+tested : valid day (lone (hours 12) 0 (only true Empty noSchedule)) ≡ true
+unfolding computed lone
+tested = refl
+
+one-start : (d : ℕ) → d ≤ 2 ^ 40
+    → answers (atOnce ++ row d oneTick) ≡ quiet Idle ∷ quiet Idle ∷ line 0 (Runs 0) 1 1 0 0 0 ∷ row d (quiet (Runs 0))
+one-start d l =
+    answers-append atOnce (row d oneTick)
+    ∙ rw (due-at-once, gone, lone-answers (hours 12) 0 d (only true Empty noSchedule) tested (λ x a b. refl) (omega arith), awake (hours 12) 0 Empty noSchedule)
+
+-- ---- M10
+
+-- No task is declared, so nothing comes.
+nothing-comes : (d : ℕ) → Quiet d nothing
+unfolding nothing
+nothing-comes d i l x a b = absurd (omega arith)
+
+nothing-tested : valid day nothing ≡ true
+unfolding computed
+nothing-tested = refl
+
+within : nothing .now .0 + 2 ^ 40 ≤ lastInstant
+unfolding nothing
+within = omega arith
+
+nobody-runs : runner nothing ≡ Idle
+unfolding computed
+nobody-runs = refl
+
+at-last : from (later (2 ^ 40) nothing) (oneTick ∷ []) ≡ plainAnswer 15 Idle ∷ []
+unfolding computed later
+at-last = refl
+
+ticks-pass : QuietTicks day (2 ^ 40) nothing
+unfolding nothing
+ticks-pass = ticks-are-quiet day (2 ^ 40) nothing refl nothing-tested (nothing-comes (2 ^ 40)) within
+
+last-tick : answers (row (2 ^ 40) oneTick ++ oneTick ∷ []) ≡ row (2 ^ 40) (quiet Idle) ++ plainAnswer 15 Idle ∷ []
+unfolding nothing
+last-tick =
+    quiet-then (2 ^ 40) nothing refl nothing-tested (nothing-comes (2 ^ 40)) within (oneTick ∷ []) ∙ rw (nobody-runs, at-last)
+
+last-instant : after (row (2 ^ 40) oneTick) .now .0 ≡ 2 ^ 40
+unfolding nothing later
+last-instant = ap (λ (k : State). k .now .0) (ticks-pass .state)
+
+-- ---- the table
+
+pub marked-cases : MarkedCases
+unfolding computed atOnce later
+marked-cases =
+    record {
+      request-bytes = refl;
+      activate-bytes = refl;
+      m1 = refl;
+      m2 = noon-lines;
+      m3 = late-lines;
+      m4 = one-start;
+      m5 = refl;
+      m6 = refl;
+      m7 = refl;
+      m7-value = refl;
+      m8 = refl;
+      m8-values = (refl, refl);
+      m8-waits = (refl, refl);
+      m9 = refl;
+      m10 = last-tick;
+      m10-instant = last-instant;
+    }

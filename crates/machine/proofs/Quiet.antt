@@ -1,0 +1,160 @@
+-- While nothing comes, ticks only move the instant.
+use mathlib.Core.Path.{_≡_, refl, ap, ap₂, _∙_}
+use mathlib.Core.Bool.{Bool, true, false}
+use mathlib.Core.List.{List, [], _∷_, _++_, map}
+use Prim.Native.Nat.{ℕ, zero, suc, _+_, _≤_, _<_}
+use native.Mathlib.Nat.{not-suc-le-zero}
+use native.Mathlib.Omega.{arith}
+use lib.ListN.{length, drop}
+use borrow.Author.Tests.{le-leb, lt-ltb}
+use Rattle.calendar.specs.Limits.{lastInstant}
+use Rattle.calendar.specs.Times.{duration, plus}
+use Rattle.calendar.specs.declared.Instant.{Instant}
+use Rattle.layout.specs.Marks.{among}
+use Rattle.layout.specs.Fields.{callOf, headOf, listOf, bytesOf}
+use Rattle.record.specs.Lists.{allZero}
+use Rattle.record.specs.Refusals.{uses, cleanNames, cleanStart, ranged, formed, listed, timed, shape, times}
+use Rattle.record.specs.Reading.{opened}
+use Rattle.layout.specs.declared.Call.{Call}
+use Rattle.layout.specs.declared.Mark.the-variants.{TI}
+use Rattle.task.specs.Schedules.{falls}
+use Rattle.task.specs.Turns.{unmarked, delayEnds, wake, fallTurn, tickTurn}
+use Rattle.task.specs.declared.Task.{Task}
+use Rattle.task.specs.declared.Turn.{Turn}
+use Rattle.machine.specs.declared.Counts.{Counts}
+use Rattle.machine.specs.declared.State.{State}
+use Rattle.machine.specs.declared.Stepped.{Stepped}
+use Rattle.machine.specs.Sets.{setOf}
+use Rattle.machine.specs.State.{mostTasks, taskAt, begunAt}
+use Rattle.machine.specs.Running.{runner, urgency}
+use Rattle.machine.specs.Granting.{servable}
+use Rattle.machine.specs.Work.{turns, everyTurn}
+use Rattle.machine.specs.Serving.{serve}
+use Rattle.machine.specs.Test.{nobodyServable, valid}
+use Rattle.machine.specs.Refusals.{declares, declaredIn, roomFor, formalRefusal, stateRefusalOf, refusalOf}
+use Rattle.machine.specs.Calls.{tick}
+use Rattle.machine.specs.Step.{plainAnswer, finish, orRefuse, carryOut, carryOn, step}
+use Rattle.machine.specs.Log.{final, log}
+use Rattle.machine.specs.Scripts.{row, oneTick}
+use Rattle.machine.specs.Quiet.{comes, Quiet, later, TicksAreQuiet}
+use Rattle.lock.proofs.Bools.{neither}
+use Rattle.machine.proofs.Below.{mostUrgent-none}
+use Rattle.machine.proofs.Passed.{parts, tested}
+use Rattle.machine.proofs.Facts.{nobody-untest}
+
+-- ---- turns that mark nothing and leave their tasks
+
+module _ (f : Task → Turn) where
+  kept-tasks : (n : ℕ) (ts : List Task) → n ≤ length ts
+      → ((i : ℕ) → i < n → f (taskAt ts i) ≡ unmarked (taskAt ts i))
+      → map (λ u. u .task) (turns n f ts) ++ drop n ts ≡ ts
+  kept-tasks zero ts h e = refl
+  kept-tasks (suc n) [] h e = absurd (not-suc-le-zero h)
+  kept-tasks (suc n) (t ∷ ts) h e =
+      ap₂ (λ (a : Task) (b : List Task). a ∷ b) (ap (λ u. u .task) (e 0 (omega arith)))
+      (kept-tasks n ts (omega arith) (λ i l. e (suc i) (omega arith)))
+
+  no-marks : (g : Turn → Bool) → ((t : Task) → g (unmarked t) ≡ false)
+      → (n : ℕ) (ts : List Task) → n ≤ length ts
+      → ((i : ℕ) → i < n → f (taskAt ts i) ≡ unmarked (taskAt ts i))
+      → setOf (map g (turns n f ts)) ≡ 0
+  unfolding setOf
+  no-marks g z zero ts h e = refl
+  no-marks g z (suc n) [] h e = absurd (not-suc-le-zero h)
+  no-marks g z (suc n) (t ∷ ts) h e =
+      let a : g (f t) ≡ false = ap g (e 0 (omega arith)) ∙ z t in
+      rw (a, no-marks g z n ts (omega arith) (λ i l. e (suc i) (omega arith)))
+
+quiet-turn : (n : Instant) (t : Task) → comes n t ≡ false → tickTurn n t ≡ unmarked t
+unfolding fallTurn wake
+quiet-turn n t e =
+    let p = neither (falls n (t .schedule .alarm)) (delayEnds n (t .hold)) e in
+    rw (p .1, p .0)
+
+module _ (day : ℕ) (k : State) where
+  pub still-valid : (n : Instant) → k .now .0 ≤ lastInstant → n .0 ≤ lastInstant → valid day k ≡ true → valid day (begunAt n k) ≡ true
+  unfolding valid nobodyServable
+  still-valid n a b v = rw (le-leb (n .0) lastInstant b) (rw (le-leb (k .now .0) lastInstant a) at v)
+
+-- ---- one tick
+
+-- Its record is well-formed for every kernel.
+tick-formed : (day : ℕ) (n : Counts) (b : Bool) → formalRefusal day n b (callOf TI oneTick) ≡ 0
+unfolding formalRefusal declares declaredIn roomFor shape times timed formed listed ranged cleanStart cleanNames uses allZero headOf listOf bytesOf
+tick-formed day n true = refl
+tick-formed day n false = refl
+
+module _ (day : ℕ) (k : State) (room : length (k .tasks) ≡ mostTasks) (v : valid day k ≡ true) where
+  nobody-served : (g turns : ℕ)
+      → serve (k .counts .tasks) turns (record { tasks = k .tasks; locks = k .locks; granted = g })
+      ≡ record { tasks = k .tasks; locks = k .locks; granted = g }
+  unfolding serve
+  nobody-served g zero = refl
+  nobody-served g (suc n) =
+      rw (
+        mostUrgent-none (k .counts .tasks) (servable (k .counts .tasks) (k .tasks) (k .locks)) (urgency (k .tasks))
+            (nobody-untest k (parts day k v .stuck)),
+        serve,
+      )
+
+  tick-moves : Quiet 1 k
+      → finish k (tick k)
+      ≡ record { state = begunAt (plus (k .now) (duration 1)) k; answer = plainAnswer 0 (runner k) }
+  unfolding finish tick everyTurn
+  tick-moves q =
+      let n = k .counts .tasks in
+      let f = tickTurn (plus (k .now) (duration 1)) in
+      let r : n ≤ length (k .tasks) = omega (arith, tested day k v .fits .tasks) in
+      let e : (i : ℕ) → i < n → f (taskAt (k .tasks) i) ≡ unmarked (taskAt (k .tasks) i) =
+      λ i l. quiet-turn (plus (k .now) (duration 1)) (taskAt (k .tasks) i) (q i l (k .now .0 + 1) (omega arith) (omega arith)) in
+      rw (
+        kept-tasks f n (k .tasks) r e,
+        no-marks f (λ u. u .due) (λ t. refl) n (k .tasks) r e,
+        no-marks f (λ u. u .started) (λ t. refl) n (k .tasks) r e,
+        no-marks f (λ u. u .ended) (λ t. refl) n (k .tasks) r e,
+        no-marks f (λ u. u .lost) (λ t. refl) n (k .tasks) r e,
+        nobody-served 0 n,
+      )
+
+  -- A tick, quiet or not.
+  pub tick-step : (c : Call) → step day k oneTick ≡ orRefuse k (stateRefusalOf TI k c) (finish k (tick k))
+  unfolding step carryOn carryOut refusalOf stateRefusalOf opened among headOf bytesOf
+  tick-step c = rw (v, tick-formed day (k .counts) (k .begun))
+
+  pub quiet-step : Quiet 1 k → k .now .0 < lastInstant
+      → step day k oneTick
+      ≡ record { state = begunAt (plus (k .now) (duration 1)) k; answer = plainAnswer 0 (runner k) }
+  unfolding step carryOn carryOut refusalOf stateRefusalOf opened among headOf bytesOf
+  quiet-step q l = rw (v, lt-ltb (k .now .0) lastInstant l, tick-formed day (k .counts) (k .begun)) (tick-moves q)
+
+-- ---- d ticks
+
+next : State → State
+next k = begunAt (plus (k .now) (duration 1)) k
+
+module _ (d : ℕ) (k : State) where
+  quiet-next : Quiet (suc d) k → Quiet d (next k)
+  unfolding next
+  quiet-next q i l x a b = q i l x (omega arith) (omega arith)
+
+  first-quiet : Quiet (suc d) k → Quiet 1 k
+  first-quiet q i l x a b = q i l x a (omega arith)
+
+later-next : (d : ℕ) (k : State) → later d (next k) ≡ later (suc d) k
+unfolding later next
+later-next zero k = refl
+later-next (suc d) k =
+    let e : k .now .0 + 1 + suc d ≡ k .now .0 + suc (suc d) = omega arith in
+    rw e
+
+pub ticks-are-quiet : TicksAreQuiet
+unfolding log final row later next
+ticks-are-quiet day zero k room v q l = record { answers = refl; state = refl }
+ticks-are-quiet day (suc d) k room v q l =
+    let s = quiet-step day k room v (first-quiet d k q) (omega arith) in
+    let w = still-valid day k (plus (k .now) (duration 1)) (omega arith) (omega arith) v in
+    let r = ticks-are-quiet day d (next k) room w (quiet-next d k q) (omega arith) in
+    record {
+      answers = rw (s, r .answers);
+      state = ap (λ (x : Stepped). final day (x .state) (row d oneTick)) s ∙ r .state ∙ later-next d k;
+    }

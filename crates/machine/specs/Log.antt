@@ -1,0 +1,19 @@
+-- What a list of records leaves: the last kernel, and the log of records and answers.
+use mathlib.Core.List.{List, [], _∷_}
+use Prim.Native.Nat.{ℕ}
+use Rattle.machine.specs.declared.State.{State}
+use Rattle.machine.specs.declared.Answer.{Answer}
+use Rattle.machine.specs.Step.{step}
+
+pub record Entry : Type 0 where
+  pub bytes : List ℕ
+  pub answer : Answer
+
+module _ (day : ℕ) where
+  unfoldable pub final : State → List (List ℕ) → State
+  final k [] = k
+  final k (r ∷ rs) = final (step day k r .state) rs
+
+  unfoldable pub log : State → List (List ℕ) → List Entry
+  log k [] = []
+  log k (r ∷ rs) = record { bytes = r; answer = step day k r .answer } ∷ log (step day k r .state) rs

@@ -1,0 +1,35 @@
+-- The order of urgency, and the running task.
+use mathlib.Core.Bool.{Bool, true, false, cond}
+use mathlib.Core.List.{List}
+use Prim.Native.Nat.{ℕ, zero, suc, _+_, _*_}
+use lib.Dec.{ltb}
+use Rattle.task.specs.State.{runnable}
+use Rattle.task.specs.declared.Task.{Task}
+use Rattle.machine.specs.declared.State.{State}
+use Rattle.machine.specs.declared.Running.{Running}
+use Rattle.machine.specs.declared.Running.the-variants.{Idle, Runs}
+use Rattle.machine.specs.State.{mostTasks, taskAt}
+
+-- The order of urgency as one number, smaller first: current priority, then task number.
+unfoldable pub urgency : List Task → ℕ → ℕ
+urgency ts i = mostTasks * taskAt ts i .current + i
+
+abbrev pub better : (ℕ → ℕ) → Running → ℕ → Running
+better u Idle n = Runs n
+better u (Runs j) n = cond (ltb (u n) (u j)) (Runs n) (Runs j)
+
+-- Of the numbers below n that pass a test, the most urgent.
+unfoldable pub mostUrgent : ℕ → (ℕ → Bool) → (ℕ → ℕ) → Running
+mostUrgent zero test u = Idle
+mostUrgent (suc n) test u = cond (test n) (better u (mostUrgent n test u) n) (mostUrgent n test u)
+
+-- The running task among the first n: the most urgent runnable one, or none.
+unfoldable pub runningOf : ℕ → List Task → Running
+runningOf n ts = mostUrgent n (λ i. runnable (taskAt ts i)) (urgency ts)
+
+abbrev pub runner : State → Running
+runner k = runningOf (k .counts .tasks) (k .tasks)
+
+abbrev pub someone : Running → Bool
+someone Idle = false
+someone (Runs i) = true

@@ -1,0 +1,131 @@
+-- What a kernel holds (document 01), and the kernel with one part changed.
+use mathlib.Core.Bool.{Bool, true, false}
+use mathlib.Core.List.{List, [], _∷_}
+use Prim.Native.Nat.{ℕ}
+use lib.ListN.{getD, replicate}
+use Rattle.calendar.specs.Times.{instant}
+use Rattle.calendar.specs.declared.Instant.{Instant}
+use Rattle.lock.specs.Locks.{mostLocks, emptyBolt}
+use Rattle.lock.specs.declared.Wait.{Wait}
+use Rattle.lock.specs.declared.Wait.the-variants.{Nothing, Request, Reserve, Enter}
+use Rattle.lock.specs.declared.Locks.{Locks}
+use Rattle.task.specs.State.{noTask, noSchedule}
+use Rattle.task.specs.declared.Hold.the-variants.{Unheld}
+use Rattle.task.specs.declared.Kept.the-variants.{Empty}
+use Rattle.task.specs.declared.Task.{Task}
+use Rattle.machine.specs.declared.Counts.{Counts}
+use Rattle.machine.specs.declared.State.{State}
+
+-- ---- how many of each kind there can be
+
+abbrev pub mostTasks : ℕ
+mostTasks = 32
+
+abbrev pub mostSemaphores : ℕ
+mostSemaphores = mostLocks
+
+abbrev pub mostBolts : ℕ
+mostBolts = mostLocks
+
+abbrev pub mostInterrupts : ℕ
+mostInterrupts = 8
+
+-- ---- one place
+
+abbrev pub taskAt : List Task → ℕ → Task
+taskAt ts i = getD ts i noTask
+
+abbrev pub enabledAt : State → ℕ → Bool
+enabledAt k i = getD (k .enabled) i false
+
+-- How many numbers a list of a kind can name.
+abbrev pub countOf : Counts → Wait → ℕ
+countOf n Nothing = 0
+countOf n Request = n .semaphores
+countOf n Reserve = n .bolts
+countOf n Enter = n .bolts
+
+-- ---- a fresh kernel
+
+-- A task as its declaration leaves it.
+unfoldable pub freshTask : ℕ → Task
+freshTask p =
+    record {
+      declared = p;
+      current = p;
+      alive = false;
+      kept = Empty;
+      wait = Nothing;
+      len = 0;
+      list = 0 ∷ 0 ∷ 0 ∷ 0 ∷ [];
+      hold = Unheld;
+      schedule = noSchedule;
+    }
+
+-- A place of the table of tasks in which none is declared.
+abbrev pub vacant : Task
+vacant = freshTask 0
+
+-- Nothing is declared.
+unfoldable pub nothing : State
+nothing =
+    record {
+      tasks = replicate mostTasks vacant;
+      locks = record { semaphores = replicate mostSemaphores 0; bolts = replicate mostBolts emptyBolt };
+      enabled = replicate mostInterrupts false;
+      counts = record { tasks = 0; semaphores = 0; bolts = 0; interrupts = 0 };
+      clock = 0;
+      now = instant 0;
+      begun = false;
+    }
+
+-- ---- a kernel with some parts changed
+
+abbrev pub withState : List Task → Locks → List Bool → State → State
+withState ts r is k =
+    record {
+      tasks = ts;
+      locks = r;
+      enabled = is;
+      counts = k .counts;
+      clock = k .clock;
+      now = k .now;
+      begun = k .begun;
+    }
+
+abbrev pub withCounts : Counts → State → State
+withCounts n k =
+    record {
+      tasks = k .tasks;
+      locks = k .locks;
+      enabled = k .enabled;
+      counts = n;
+      clock = k .clock;
+      now = k .now;
+      begun = k .begun;
+    }
+
+abbrev pub withClock : ℕ → State → State
+withClock t k =
+    record {
+      tasks = k .tasks;
+      locks = k .locks;
+      enabled = k .enabled;
+      counts = k .counts;
+      clock = t;
+      now = k .now;
+      begun = k .begun;
+    }
+
+-- The kernel after an accepted call, at instant n.
+abbrev pub begunAt : Instant → State → State
+begunAt n k =
+    record {
+      tasks = k .tasks;
+      locks = k .locks;
+      enabled = k .enabled;
+      counts = k .counts;
+      clock = k .clock;
+      now = n;
+      begun = true;
+    }

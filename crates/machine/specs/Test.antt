@@ -1,0 +1,124 @@
+-- The kernel test: what passes it isn't refused with 1. Places beyond the counts aren't looked at.
+use mathlib.Core.Bool.{Bool, true, not, _&&_, _||_}
+use Prim.Native.Nat.{ℕ, zero, suc}
+use lib.Dec.{leb, ltb}
+use Rattle.calendar.specs.Limits.{longestDuration, lastInstant, mostInstant, isTimeOfDay, isDuration, isPeriod}
+use Rattle.calendar.specs.declared.Instant.{Instant}
+use Rattle.calendar.specs.declared.End.{End}
+use Rattle.calendar.specs.declared.End.the-variants.{Open, Until, During}
+use Rattle.calendar.specs.declared.Moment.{Moment}
+use Rattle.calendar.specs.declared.Moment.the-variants.{Never, At}
+use Rattle.record.specs.Lists.{distinct}
+use Rattle.record.specs.Refusals.{mostValue, mostNumbers}
+use Rattle.lock.specs.Locks.{waiting, every, valueAt, boltAt}
+use Rattle.task.specs.State.{unheld, isKept, wanted}
+use Rattle.task.specs.declared.Hold.{Hold}
+use Rattle.task.specs.declared.Hold.the-variants.{Unheld, Suspended, Delayed}
+use Rattle.task.specs.declared.Kept.{Kept}
+use Rattle.task.specs.declared.Kept.the-variants.{Empty, Back}
+use Rattle.task.specs.declared.Plan.{Plan}
+use Rattle.task.specs.declared.Plan.the-variants.{None, Clock, Armed, Triggered}
+use Rattle.task.specs.declared.Schedule.{Schedule}
+use Rattle.task.specs.declared.Task.{Task}
+use Rattle.machine.specs.declared.Counts.{Counts}
+use Rattle.machine.specs.declared.State.{State}
+use Rattle.machine.specs.State.{mostTasks, mostSemaphores, mostBolts, mostInterrupts, taskAt, countOf}
+use Rattle.machine.specs.Granting.{servable}
+
+-- ---- limits
+
+abbrev pub between : ℕ → ℕ → ℕ → Bool
+between a b n = leb a n && leb n b
+
+-- A priority is 1 to 255.
+abbrev pub isPriority : ℕ → Bool
+isPriority p = between 1 255 p
+
+abbrev pub isStored : Instant → Bool
+isStored n = leb (n .0) mostInstant
+
+abbrev pub holdOk : Hold → Bool
+holdOk Unheld = true
+holdOk Suspended = true
+holdOk (Delayed n) = isStored n
+
+abbrev pub keptOk : Kept → Bool
+keptOk Empty = true
+keptOk (Back p) = isPriority p
+
+abbrev pub endOk : ℕ → End → Bool
+endOk day Open = true
+endOk day (Until t) = isTimeOfDay day t
+endOk day (During d) = isDuration (d .0)
+
+abbrev pub momentOk : Moment → Bool
+momentOk Never = true
+momentOk (At n) = isStored n
+
+-- ---- one task
+
+-- Priority, period and end of a schedule.
+abbrev pub termsOk : ℕ → Schedule → Bool
+termsOk day s = isPriority (s .priority) && isPeriod (s .period) && endOk day (s .end)
+
+-- The declared interrupt that it waits for, and the delay.
+abbrev pub listenerOk : ℕ → Schedule → Bool
+listenerOk ni s = ltb (s .alarm .interrupt) ni && leb (s .alarm .delay .0) longestDuration
+
+-- Its next due and its last.
+abbrev pub nextOk : Schedule → Bool
+nextOk s = isStored (s .alarm .next) && momentOk (s .last)
+
+unfoldable pub scheduleOk : ℕ → ℕ → Plan → Schedule → Bool
+scheduleOk day ni None s = true
+scheduleOk day ni Clock s = termsOk day s && nextOk s
+scheduleOk day ni Armed s = termsOk day s && listenerOk ni s
+scheduleOk day ni Triggered s = termsOk day s && listenerOk ni s && nextOk s
+
+-- A terminated task waits for nothing, is unheld and has no start kept back.
+abbrev pub restOk : Task → Bool
+restOk t = t .alive || (not (isKept (t .kept)) && not (waiting (t .wait)) && unheld (t .hold))
+
+-- A wait's list names one to four numbers, none twice, all declared.
+abbrev pub waitOk : Counts → Task → Bool
+waitOk n t =
+    not (waiting (t .wait))
+    || (between 1 mostNumbers (t .len) && distinct (wanted t) && every (λ x. ltb x (countOf n (t .wait))) (wanted t))
+
+unfoldable pub taskOk : ℕ → Counts → Task → Bool
+taskOk day n t =
+    isPriority (t .declared)
+    && isPriority (t .current)
+    && keptOk (t .kept)
+    && holdOk (t .hold)
+    && restOk t
+    && waitOk n t
+    && scheduleOk day (n .interrupts) (t .schedule .alarm .plan) (t .schedule)
+
+-- ---- the kernel
+
+-- Each number below n passes a test.
+unfoldable pub allBelow : ℕ → (ℕ → Bool) → Bool
+allBelow zero f = true
+allBelow (suc n) f = allBelow n f && f n
+
+unfoldable pub countsOk : Counts → Bool
+countsOk n =
+    leb (n .tasks) mostTasks
+    && leb (n .semaphores) mostSemaphores
+    && leb (n .bolts) mostBolts
+    && leb (n .interrupts) mostInterrupts
+
+-- Nobody waits on a list that could be granted.
+unfoldable pub nobodyServable : State → Bool
+nobodyServable k = allBelow (k .counts .tasks) (λ i. not (servable (k .counts .tasks) (k .tasks) (k .locks) i))
+
+unfoldable pub valid : ℕ → State → Bool
+valid day k =
+    leb (k .now .0) lastInstant
+    && isTimeOfDay day (k .clock)
+    && countsOk (k .counts)
+    && allBelow (k .counts .semaphores) (λ s. leb (valueAt (k .locks) s) mostValue)
+    && allBelow (k .counts .bolts) (λ b. leb (boltAt (k .locks) b .readers) mostValue)
+    && allBelow (k .counts .tasks) (λ i. taskOk day (k .counts) (taskAt (k .tasks) i))
+    && nobodyServable k

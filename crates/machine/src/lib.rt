@@ -1,0 +1,45 @@
+// The rack kernel's state, and what a step hands back.
+use calendar::Instant;
+use lock::Locks;
+use task::Task;
+
+// How many of each kind are declared.
+pub struct Counts {
+    pub tasks: u8,
+    pub semaphores: u8,
+    pub bolts: u8,
+    pub interrupts: u8,
+}
+
+pub struct State {
+    pub tasks: [Task; 32],
+    pub locks: Locks,
+    pub enabled: [bool; 8],
+    pub counts: Counts,
+    // The time of day at instant 0.
+    pub clock: u32,
+    pub now: Instant,
+    // Whether a call was accepted yet.
+    pub begun: bool,
+}
+
+pub enum Running {
+    Idle,
+    Runs(u8),
+}
+
+// A number, 0 or a refusal; the running task; and sets of tasks in which task i counts 2^i.
+pub struct Answer {
+    pub number: u8,
+    pub running: Running,
+    pub due: u32,
+    pub started: u32,
+    pub ended: u32,
+    pub lost: u32,
+    pub granted: u32,
+}
+
+pub struct Stepped {
+    pub state: State,
+    pub answer: Answer,
+}
