@@ -1,8 +1,8 @@
 -- The marks by their letters and by their places in the code's enum.
 use mathlib.Core.Path.{_≡_, refl, sym, _∙_, ap}
-use mathlib.Core.Bool.{Bool, true, false, cond}
+use mathlib.Core.Bool.{Bool, true, false, cond, _&&_}
 use mathlib.Core.List.{List, [], _∷_}
-use Prim.Native.Nat.{ℕ}
+use Prim.Native.Nat.{ℕ, zero, suc}
 use lib.ListN.{getD}
 use lib.Dec.{eqb}
 use native.Mathlib.Omega.{arith}
@@ -11,7 +11,7 @@ use denote.Enum.Declared.{tagOf}
 use Rattle.layout.specs.declared.Mark.{Mark}
 use Rattle.layout.specs.declared.Mark.the-variants.{DT, DS, DB, IT, DC, AC, TE, SU, PR, CO, EN, RE, RQ, RL, TR, RS, FR, ET, LV, TG, EI, XI, TI}
 use Rattle.layout.specs.declared.Marked.the-variants.{Unknown, Known}
-use Rattle.layout.specs.Marks.{code, marks, among, markOf, form}
+use Rattle.layout.specs.Marks.{code, is, marks, among, markOf, form}
 use Rattle.layout.proofs.Mark as MarkT
 
 -- Each mark is the only one with its letters, and stands at its place in the list.
@@ -44,6 +44,31 @@ found TI = (refl, refl)
 -- What bears a mark's letters is that mark.
 pub known : (m : Mark) {n : ℕ} → n ≡ code m → Known m ≡ markOf n
 known m e = sym (ap markOf e ∙ found m .0)
+
+-- A mark is told by its letters.
+pub is-mark : (m n : Mark) → is m n ≡ true → m ≡ n
+is-mark m n e =
+    let q : Known m ≡ Known n = sym (found m .0) ∙ ap markOf (eqb-true (code m) (code n) e) ∙ found n .0 in
+    cc
+
+-- A test of every mark in the list.
+unfoldable pub allMarks : (Mark → Bool) → List Mark → Bool
+allMarks f [] = true
+allMarks f (m ∷ ms) = f m && allMarks f ms
+
+both : (a b : Bool) → (a && b) ≡ true → (a ≡ true) × (b ≡ true)
+both true b e = (refl, e)
+both false b e = let x : _≡_ {A = ℕ} 0 1 = cc in absurd (omega arith)
+
+all-at : (f : Mark → Bool) (ms : List Mark) → allMarks f ms ≡ true → f DT ≡ true → (i : ℕ) → f (getD ms i DT) ≡ true
+unfolding allMarks
+all-at f [] e z i = z
+all-at f (m ∷ ms) e z zero = both (f m) (allMarks f ms) e .0
+all-at f (m ∷ ms) e z (suc i) = all-at f ms (both (f m) (allMarks f ms) e .1) z i
+
+-- What is computed for the list holds of every mark.
+pub every-mark : (f : Mark → Bool) → f DT ≡ true → allMarks f marks ≡ true → (m : Mark) → f m ≡ true
+every-mark f z e m = sym (ap f (found m .1)) ∙ all-at f marks e z (tagOf MarkT.the-type m)
 
 -- The form of the mark at a place.
 pub form-at : (m : Mark) (k : ℕ) → tagOf MarkT.the-type m ≡ k → form (getD marks k DT) ≡ form m

@@ -10,7 +10,6 @@ use lib.ListN.{length, set, List·getD-eq-default}
 use lib.Seq.{getD-set-same, getD-set-other, set-out}
 use borrow.Author.Tests.{ltb-true, ltb-false}
 use Rattle.layout.specs.declared.Mark.{Mark}
-use Rattle.layout.specs.declared.Mark.the-variants.{DT, DS, DB, IT, DC, AC, TE, SU, PR, CO, EN, RE, RQ, RL, TR, RS, FR, ET, LV, TG, EI, XI, TI}
 use Rattle.layout.specs.declared.Call.{Call}
 use Rattle.lock.proofs.Bools.{byBool, contra}
 use Rattle.task.specs.State.{noTask, runnable}
@@ -21,13 +20,13 @@ use Rattle.machine.specs.State.{mostTasks, taskAt, freshTask}
 use Rattle.machine.specs.Running.{urgency, mostUrgent, runningOf, runner}
 use Rattle.machine.specs.Test.{valid}
 use Rattle.machine.specs.Refusals.{roomFor}
-use Rattle.machine.specs.Calls.{addTask, addSemaphore, addBolt, addInterrupt}
+use Rattle.machine.specs.Calls.{addTask, addSemaphore, addBolt, addInterrupt, declaration}
 use Rattle.machine.specs.Work.{Work}
 use Rattle.machine.specs.Step.{refuse, finish, declared, carryOut, step}
 use Rattle.machine.specs.Promises.{AnswersRunner, AnswersFirst}
 use Rattle.machine.proofs.Urgency.{runner-first, scan-same}
 use Rattle.machine.proofs.Passed.{passed, room-task, tested}
-use Rattle.machine.proofs.Cases.{step-cases}
+use Rattle.machine.proofs.Cases.{out-cases, declaration-cases, step-cases}
 
 -- A task that was just declared isn't runnable, nor is one beyond the table.
 fresh-rests : (ts : List Task) (n p : ℕ) → runnable (taskAt (set ts n (freshTask p)) n) ≡ false
@@ -62,37 +61,23 @@ module _ (day : ℕ) (k : State) (l : k .counts .tasks ≤ mostTasks) where
   unfolding declared
   right-declared d e m = record { runs = sym e; most = m }
 
-  right-out : (m : Mark) (c : Call) → roomFor m (k .counts) ≡ true → Right (carryOut day m k c)
-  unfolding carryOut
-  right-out DT c r = right-declared (addTask (c .head .priority) k) (runner-added k _) (unfold addTask in omega (arith, room-task (k .counts) r))
-  right-out DS c r = right-declared (addSemaphore (c .head .first) k) (unfold addSemaphore in refl) (unfold addSemaphore in l)
-  right-out DB c r = right-declared (addBolt k) (unfold addBolt in refl) (unfold addBolt in l)
-  right-out IT c r = right-declared (addInterrupt k) (unfold addInterrupt in refl) (unfold addInterrupt in l)
-  right-out DC c r = right-declared _ refl l
-  right-out AC c r = right-finish _
-  right-out TE c r = right-finish _
-  right-out SU c r = right-finish _
-  right-out PR c r = right-finish _
-  right-out CO c r = right-finish _
-  right-out EN c r = right-finish _
-  right-out RE c r = right-finish _
-  right-out RQ c r = right-finish _
-  right-out RL c r = right-finish _
-  right-out TR c r = right-finish _
-  right-out RS c r = right-finish _
-  right-out FR c r = right-finish _
-  right-out ET c r = right-finish _
-  right-out LV c r = right-finish _
-  right-out TG c r = right-finish _
-  right-out EI c r = right-finish _
-  right-out XI c r = right-finish _
-  right-out TI c r = right-finish _
+  right-declaration : (m : Mark) (c : Call) → roomFor m (k .counts) ≡ true → Right (declared k (declaration m c k))
+  right-declaration m c r =
+      declaration-cases m c k (λ d. Right (declared k d))
+      (λ e. right-declared _ (runner-added k _) (unfold addTask in omega (arith, room-task (k .counts) (rw e at r))))
+      (λ e. right-declared _ (unfold addSemaphore in refl) (unfold addSemaphore in l))
+      (λ e. right-declared _ (unfold addBolt in refl) (unfold addBolt in l))
+      (λ e. right-declared _ (unfold addInterrupt in refl) (unfold addInterrupt in l))
+      (λ e. right-declared _ refl l) (right-declared k refl l)
+
+  right-out : (c : Call) → roomFor (c .head .mark) (k .counts) ≡ true → Right (carryOut day k c)
+  right-out c r = out-cases day k c Right (λ e. right-declaration (c .head .mark) c r) (λ e. right-finish _)
 
 right-step : (day : ℕ) (k : State) (s : List ℕ) → valid day k ≡ true → Right (step day k s)
 right-step day k s v =
     let l = tested day k v .fits .tasks in
     step-cases day k Right (λ e. contra v e) (λ e n p q. right-refuse day k l n)
-    (λ e c r. right-out day k l (c .head .mark) c (passed day k c r .0 .room)) s
+    (λ e c r. right-out day k l c (passed day k c r .formal .room)) s
 
 pub answers-runner : AnswersRunner
 answers-runner day k s v = right-step day k s v .runs

@@ -3,40 +3,36 @@ use mathlib.Core.Path.{_≡_, refl, sym, subst}
 use mathlib.Core.Bool.{Bool, true, false}
 use mathlib.Core.List.{List, [], _∷_}
 use Prim.Native.Nat.{ℕ, zero, suc, _<_}
-use lib.Dec.{ltb}
-use borrow.Author.Tests.{ltb-true}
-use Rattle.calendar.specs.Times.{duration, plus}
+use Rattle.layout.specs.Marks.{is as bears}
 use Rattle.layout.specs.declared.Mark.{Mark}
-use Rattle.layout.specs.declared.Mark.the-variants.{DT, DS, DB, IT, DC, AC, TE, SU, PR, CO, EN, RE, RQ, RL, TR, RS, FR, ET, LV, TG, EI, XI, TI}
+use Rattle.layout.specs.declared.Mark.the-variants.{DT, DS, DB, IT, DC}
+use Rattle.layout.proofs.MarksLaws.{is-mark}
 use Rattle.layout.specs.declared.Call.{Call}
 use Rattle.lock.specs.Locks.{emptyBolt}
-use Rattle.lock.specs.declared.Wait.the-variants.{Request, Reserve, Enter}
 use Rattle.lock.specs.declared.Locks.{Locks}
-use Rattle.lock.proofs.Bools.{byBool, both}
+use Rattle.lock.proofs.Bools.{byBool}
 use Rattle.lock.proofs.Tables.{Like, like-add}
 use Rattle.lock.proofs.Alike.{Alike, Seen}
 use Rattle.task.specs.State.{noTask}
-use Rattle.task.specs.Turns.{endTurn, preventTurn, suspendTurn, continueTurn, resumeTurn}
 use Rattle.task.specs.declared.Task.{Task}
-use Rattle.task.specs.declared.Turn.{Turn}
-use Rattle.task.proofs.Waits.{NoNewWait, no-wait-end, no-wait-prevent, no-wait-suspend, no-wait-continue, no-wait-resume}
 use Rattle.machine.specs.declared.Counts.{Counts}
 use Rattle.machine.specs.declared.State.{State}
 use Rattle.machine.specs.State.{mostTasks, mostSemaphores, mostBolts, mostInterrupts, freshTask, withState, withClock}
 use Rattle.machine.specs.Running.{runner}
-use Rattle.machine.specs.Work.{Work, turnOf}
+use Rattle.machine.specs.Sorts.{sortOf, declares}
+use Rattle.machine.specs.Work.{Work}
 use Rattle.machine.specs.Serving.{Served, serve}
 use Rattle.machine.specs.Test.{valid}
-use Rattle.machine.specs.Refusals.{declaredIn, roomFor, refusalOf}
-use Rattle.machine.specs.Calls.{addTask, addSemaphore, addBolt, addInterrupt, activateTurn}
-use Rattle.machine.specs.Step.{refuse, finish, declared, orRefuse, carryOut, carryOn, stepRead, step}
+use Rattle.machine.specs.Refusals.{roomFor}
+use Rattle.machine.specs.Calls.{addTask, addSemaphore, addBolt, addInterrupt, declaration}
+use Rattle.machine.specs.Step.{refuse, finish, declared, orRefuse, carryOut, carryOn, step}
 use Rattle.machine.specs.Log.{log}
 use Rattle.machine.specs.Beyond.{Agree, Match, StepsAgree, LogsAgree}
-use Rattle.machine.proofs.Passed.{passed, Fits, Tested, tested, room-task, room-semaphore, room-bolt, room-interrupt}
-use Rattle.machine.proofs.Cases.{opened-cases}
+use Rattle.machine.proofs.Passed.{refusalOf, unrefused, Passed, passed, Fits, Tested, tested, room-task, room-semaphore, room-bolt, room-interrupt}
+use Rattle.machine.proofs.Cases.{opened-cases, carried-by, stepOpened, read-opened}
 use Rattle.machine.proofs.Looks.{running-same, valid-same, runner-same, refusal-same}
 use Rattle.machine.proofs.Pairs.{Pair, serve-pair}
-use Rattle.machine.proofs.WorkPairs.{WorkPair, give-pair, enable-pair, turn-pair, runner-pair, tick-pair, trigger-pair, ask-pair, no-wait-activate}
+use Rattle.machine.proofs.WorkPairs.{WorkPair, work-pair}
 
 -- Two kernels with the same counts agree where their tables are alike.
 pub alike-agree : (k : State) (ts : List Task) (r : Locks) (is : List Bool) → Like noTask mostTasks (k .counts .tasks) (k .tasks) ts
@@ -143,54 +139,37 @@ module _ (day : ℕ) (k : State) (ts : List Task) (r : Locks) (is : List Bool) (
       pair : Pair n (k .tasks) ts (k .locks) r
       pair = record { tasks = tasks; locks = locks; listed = t .listed }
 
-      turn-match : (turn : Task → Turn) → ((t : Task) → NoNewWait t (turn t .task)) → (i : ℕ) → ltb i (n .tasks) ≡ true
-          → Match (finish k (turnOf k i turn)) (finish k′ (turnOf k′ i turn))
-      turn-match turn h i e = finish-match _ _ (turn-pair k ts r is f pair ints turn h i (ltb-true i (n .tasks) e))
+      declaration-match : (m : Mark) (c : Call) → roomFor m n ≡ true → Agree (declaration m c k) (declaration m c k′)
+      unfolding declaration
+      declaration-match m c o =
+          byBool (bears m DT) (λ e. rw e (add-task _ (room-task n (rw (is-mark m DT e) at o))))
+          (λ e. rw e (byBool (bears m DS) (λ e. rw e (add-semaphore _ (room-semaphore n (rw (is-mark m DS e) at o))))
+          (λ e. rw e (byBool (bears m DB) (λ e. rw e (add-bolt (room-bolt n (rw (is-mark m DB e) at o))))
+          (λ e. rw e (byBool (bears m IT) (λ e. rw e (add-interrupt (room-interrupt n (rw (is-mark m IT e) at o))))
+          (λ e. rw e (byBool (bears m DC) (λ e. rw e (alike-agree (withClock (c .head .first) k) ts r is tasks locks ints)) (λ e. rw e a)))))))))
 
-      out-match : (m : Mark) (c : Call) → declaredIn m n c ≡ true → roomFor m n ≡ true → Match (carryOut day m k c) (carryOut day m k′ c)
-      unfolding carryOut declaredIn
-      out-match DT c e o = declared-match _ _ (add-task _ (room-task n o))
-      out-match DS c e o = declared-match _ _ (add-semaphore _ (room-semaphore n o))
-      out-match DB c e o = declared-match _ _ (add-bolt (room-bolt n o))
-      out-match IT c e o = declared-match _ _ (add-interrupt (room-interrupt n o))
-      out-match DC c e o = declared-match _ _ (alike-agree (withClock (c .head .first) k) ts r is tasks locks ints)
-      out-match AC c e o =
-          turn-match (activateTurn day (k .clock) (k .now) (c .head)) (no-wait-activate day (k .clock) (k .now) (c .head)) (c .head .number)
-          (both (ltb (c .head .number) (n .tasks)) _ e .0)
-      out-match TE c e o = turn-match endTurn no-wait-end (c .head .number) e
-      out-match SU c e o = turn-match suspendTurn no-wait-suspend (c .head .number) e
-      out-match PR c e o = turn-match preventTurn no-wait-prevent (c .head .number) e
-      out-match CO c e o = turn-match (continueTurn (c .head .priority)) (λ t. no-wait-continue t (c .head .priority)) (c .head .number) e
-      out-match EN c e o = finish-match _ _ (runner-pair k ts r is f pair ints endTurn no-wait-end)
-      out-match RE c e o = finish-match _ _ (runner-pair k ts r is f pair ints (resumeTurn (plus (k .now) (duration (c .head .first)))) (λ t. no-wait-resume t _))
-      out-match RQ c e o = finish-match _ _ (ask-pair k ts r is f pair ints true Request c e)
-      out-match RL c e o = finish-match _ _ (give-pair k ts r is f pair ints Request c)
-      out-match TR c e o = finish-match _ _ (ask-pair k ts r is f pair ints false Request c e)
-      out-match RS c e o = finish-match _ _ (ask-pair k ts r is f pair ints true Reserve c e)
-      out-match FR c e o = finish-match _ _ (give-pair k ts r is f pair ints Reserve c)
-      out-match ET c e o = finish-match _ _ (ask-pair k ts r is f pair ints true Enter c e)
-      out-match LV c e o = finish-match _ _ (give-pair k ts r is f pair ints Enter c)
-      out-match TG c e o = finish-match _ _ (trigger-pair k ts r is f pair ints day (c .head .number) (ltb-true _ (n .interrupts) e))
-      out-match EI c e o = finish-match _ _ (enable-pair k ts r is f pair ints (c .head .number) true)
-      out-match XI c e o = finish-match _ _ (enable-pair k ts r is f pair ints (c .head .number) false)
-      out-match TI c e o = finish-match _ _ (tick-pair k ts r is f pair ints)
+      out-match : (c : Call) → Passed day (c .head .mark) k c → Match (carryOut day k c) (carryOut day k′ c)
+      unfolding carryOut
+      out-match c p =
+          let u = unrefused (c .head .mark) c (runner k) _ (k .locks) (k .now) (p .state) in
+          byBool (declares (c .head .mark))
+          (λ e. rw e (declared-match _ _ (declaration-match (c .head .mark) c (p .formal .room))))
+          (λ e. rw e (finish-match _ _ (work-pair k ts r is f pair ints day c (sortOf (c .head .mark)) (p .formal .known) (u .runs))))
 
       on-match : (c : Call) → Match (carryOn day k c) (carryOn day k′ c)
-      unfolding carryOn
-      on-match c = rw (← refusal-same k ts r is (a .tasks) sees day c) (go (refusalOf day k c) refl)
+      on-match c = rw (carried-by day k c, carried-by day k′ c, ← refusal-same k ts r is (a .tasks) sees day c) (go (refusalOf day k c) refl)
         where
-          go : (m : ℕ) → refusalOf day k c ≡ m
-              → Match (orRefuse k m (carryOut day (c .head .mark) k c)) (orRefuse k′ m (carryOut day (c .head .mark) k′ c))
-          go zero e = let q = passed day k c e .0 in out-match (c .head .mark) c (q .known) (q .room)
+          go : (m : ℕ) → refusalOf day k c ≡ m → Match (orRefuse k m (carryOut day k c)) (orRefuse k′ m (carryOut day k′ c))
+          go zero e = out-match c (passed day k c e)
           go (suc m) e = refuse-match (suc m)
 
   step-match : (s : List ℕ) → Match (step day k s) (step day k′ s)
   unfolding step
   step-match s =
-      rw (← valid-same k ts r is (a .tasks) sees day)
+      rw (← valid-same k ts r is (a .tasks) sees day, read-opened day k s, read-opened day k′ s)
       (byBool (valid day k)
       (λ v. let t = tested day k v in rw v
-      (opened-cases s (λ o. Match (stepRead day k (o .answer) (o .list)) (stepRead day k′ (o .answer) (o .list))) (refuse-match 2) (on-match (t .fits) t)))
+      (opened-cases s (λ o. Match (stepOpened day k (o .answer) (o .list)) (stepOpened day k′ (o .answer) (o .list))) (refuse-match 2) (on-match (t .fits) t)))
       (λ v. rw v (unfold refuse in record { answer = refl; state = a })))
 
 -- A kernel that agrees with k is k with other tables.

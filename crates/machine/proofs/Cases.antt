@@ -1,38 +1,46 @@
--- Every step is refusal 1, a refusal 2 to 15, or what the mark of an accepted record does.
+-- Every step is refusal 1, a refusal 2 to 15, or what an accepted declaration or call does.
 use mathlib.Core.Path.{_≡_, refl}
 use mathlib.Core.Logic.{_≢_}
-use mathlib.Core.Bool.{Bool, true, false, not, _&&_}
+use mathlib.Core.Bool.{Bool, true, false, not, _&&_, _||_}
 use mathlib.Core.List.{List}
 use Prim.Native.Nat.{ℕ, zero, suc, _≤_}
 use native.Mathlib.Omega.{arith}
 use lib.ListN.{length}
 use lib.Dec.{ltb, eqb}
 use Rattle.calendar.specs.Limits.{lastInstant}
-use Rattle.layout.specs.Marks.{markOf, form}
+use Rattle.calendar.specs.declared.Instant.{Instant}
+use Rattle.layout.specs.Marks.{is, markOf, form}
 use Rattle.layout.specs.Fields.{recordLength, letters, callOf}
+use Rattle.layout.proofs.MarksLaws.{is-mark}
 use Rattle.record.specs.Refusals.{named, unless, before, formed, listed, timed, shape, times}
-use Rattle.record.specs.Reading.{refused, accepted, withMark, opened}
+use Rattle.record.specs.Reading.{refused, accepted, callWith, withMark, opened, orRefused}
 use Rattle.layout.specs.declared.Marked.{Marked}
 use Rattle.layout.specs.declared.Marked.the-variants.{Unknown, Known}
 use Rattle.layout.specs.declared.Mark.{Mark}
-use Rattle.layout.specs.declared.Mark.the-variants.{DT, DS, DB, IT, DC, AC, TE, SU, PR, CO, EN, RE, RQ, RL, TR, RS, FR, ET, LV, TG, EI, XI, TI}
+use Rattle.layout.specs.declared.Mark.the-variants.{DT, DS, DB, IT, DC, AC, TE, SU, CO, TI}
+use Rattle.record.specs.declared.Read.{Read}
+use Rattle.record.specs.declared.Read.the-variants.{Refused, Accepted}
 use Rattle.record.specs.declared.Reading.{Reading}
 use Rattle.layout.specs.declared.Call.{Call}
-use Rattle.lock.specs.Locks.{every, taken}
+use Rattle.lock.specs.Locks.{waiting, every, taken}
+use Rattle.lock.specs.declared.Locks.{Locks}
 use Rattle.lock.specs.declared.Wait.{Wait}
-use Rattle.lock.specs.declared.Wait.the-variants.{Request, Reserve, Enter}
+use Rattle.lock.specs.declared.Wait.the-variants.{Nothing, Request, Reserve, Enter}
 use Rattle.lock.proofs.Bools.{byBool}
 use Rattle.task.specs.State.{unheld, suspended}
-use Rattle.task.specs.declared.Hold.{Hold}
+use Rattle.task.specs.declared.Task.{Task}
 use Rattle.machine.specs.declared.State.{State}
+use Rattle.machine.specs.declared.Running.{Running}
 use Rattle.machine.specs.declared.Running.the-variants.{Idle}
 use Rattle.machine.specs.declared.Stepped.{Stepped}
-use Rattle.machine.specs.State.{taskAt}
+use Rattle.machine.specs.State.{withClock}
 use Rattle.machine.specs.Running.{runner, someone}
-use Rattle.machine.specs.Work.{Work}
 use Rattle.machine.specs.Test.{valid}
-use Rattle.machine.specs.Refusals.{declares, declaredIn, roomFor, formalRefusal, aliveAt, needsRunner, needsAlive, needsTaken, stateRefusalOf, refusalOf}
-use Rattle.machine.specs.Step.{refuse, finish, declared, orRefuse, carryOut, carryOn, stepRead, step}
+use Rattle.machine.specs.Sorts.{sortOf, declares, needsRunner, givenKind}
+use Rattle.machine.specs.Refusals.{declaredIn, roomFor, formalRefusal, admittedIf, admitted, unreturnable, refusalBy, stateRefusal}
+use Rattle.machine.specs.Calls.{addTask, addSemaphore, addBolt, addInterrupt, declaration, workOf}
+use Rattle.machine.specs.Step.{refuse, finish, declared, orRefuse, carryOut, settle, carryOn, stepRead, step}
+use Rattle.machine.proofs.Passed.{refusalOf}
 
 -- ---- bytes
 
@@ -76,94 +84,101 @@ late-formal day k c =
     (late-before _ _ (late-last (timed day (form (c .head .mark)) (c .head)) 6 (omega arith))
     (late-last (roomFor (c .head .mark) (k .counts)) 7 (omega arith)))))
 
-module _ (k : State) (c : Call) where
-  late-runner : (rest : ℕ) → Late rest → Late (needsRunner k rest)
-  late-runner rest p = late-unless (someone (runner k)) 8 rest (omega arith) p
+late-unreturnable : (w : Wait) → Late (unreturnable w)
+late-unreturnable Nothing = omega arith
+late-unreturnable Request = omega arith
+late-unreturnable Reserve = omega arith
+late-unreturnable Enter = omega arith
 
-  late-alive : (rest : ℕ) → Late rest → Late (needsAlive k c rest)
-  late-alive rest p = late-unless (aliveAt k (c .head .number)) 10 rest (omega arith) p
-
-  late-taken : (w : Wait) (n : ℕ) → Late n → Late (needsRunner k (needsTaken k w c n))
-  late-taken w n p = late-runner _ (late-last (every (taken w (k .locks)) (named c)) n p)
-
-  abbrev hold : Hold
-  hold = taskAt (k .tasks) (c .head .number) .hold
-
-  late-state : (m : Mark) → Late (stateRefusalOf m k c)
-  unfolding stateRefusalOf
-  late-state DT = omega arith
-  late-state DS = omega arith
-  late-state DB = omega arith
-  late-state IT = omega arith
-  late-state DC = omega arith
-  late-state AC = late-last (not (eqb (c .head .kind) 0 && aliveAt k (c .head .number))) 9 (omega arith)
-  late-state TE = late-alive 0 (omega arith)
-  late-state SU = late-alive _ (late-last (not (suspended hold)) 11 (omega arith))
-  late-state PR = omega arith
-  late-state CO = late-alive _ (late-last (not (unheld hold)) 12 (omega arith))
-  late-state EN = late-runner 0 (omega arith)
-  late-state RE = late-runner 0 (omega arith)
-  late-state RQ = late-runner 0 (omega arith)
-  late-state RL = late-taken Request 13 (omega arith)
-  late-state TR = late-runner 0 (omega arith)
-  late-state RS = late-runner 0 (omega arith)
-  late-state FR = late-taken Reserve 14 (omega arith)
-  late-state ET = late-runner 0 (omega arith)
-  late-state LV = late-taken Enter 14 (omega arith)
-  late-state TG = omega arith
-  late-state EI = omega arith
-  late-state XI = omega arith
-  late-state TI = late-last (ltb (k .now .0) lastInstant) 15 (omega arith)
+late-state : (m : Mark) (c : Call) (r : Running) (t : Task) (l : Locks) (n : Instant) → Late (refusalBy m c r t l n)
+unfolding refusalBy
+late-state m c r t l n =
+    let w = givenKind (sortOf m) in
+    late-unless (not (needsRunner (sortOf m)) || someone r) 8 _ (omega arith)
+    (late-unless (not (is m AC && eqb (c .head .kind) 0) || not (t .alive)) 9 _ (omega arith)
+    (late-unless (not (is m TE || is m SU || is m CO) || t .alive) 10 _ (omega arith)
+    (late-unless (not (is m SU) || not (suspended (t .hold))) 11 _ (omega arith)
+    (late-unless (not (is m CO) || not (unheld (t .hold))) 12 _ (omega arith)
+    (late-unless (not (waiting w) || every (taken w l) (named c)) (unreturnable w) _ (late-unreturnable w)
+    (late-last (not (is m TI) || ltb (n .0) lastInstant) 15 (omega arith)))))))
 
 pub late-refusal : (day : ℕ) (k : State) (c : Call) → Late (refusalOf day k c)
 unfolding refusalOf
-late-refusal day k c = late-before _ _ (late-formal day k c) (late-state k c (c .head .mark))
+late-refusal day k c = late-before _ _ (late-formal day k c) (late-state (c .head .mark) c _ _ _ _)
 
 -- ---- the step
 
--- What a mark does is a declaration or a call.
-pub out-cases : (day : ℕ) (k : State) (P : Stepped → Type 0) → ((d : State) → P (declared k d)) → ((w : Work) → P (finish k w))
-    → (m : Mark) (c : Call) → P (carryOut day m k c)
+-- What is carried out is a declaration or a call.
+pub out-cases : (day : ℕ) (k : State) (c : Call) (P : Stepped → Type 0)
+    → (declares (c .head .mark) ≡ true → P (declared k (declaration (c .head .mark) c k)))
+    → (declares (c .head .mark) ≡ false → P (finish k (workOf day k c)))
+    → P (carryOut day k c)
 unfolding carryOut
-out-cases day k P f g DT c = f _
-out-cases day k P f g DS c = f _
-out-cases day k P f g DB c = f _
-out-cases day k P f g IT c = f _
-out-cases day k P f g DC c = f _
-out-cases day k P f g AC c = g _
-out-cases day k P f g TE c = g _
-out-cases day k P f g SU c = g _
-out-cases day k P f g PR c = g _
-out-cases day k P f g CO c = g _
-out-cases day k P f g EN c = g _
-out-cases day k P f g RE c = g _
-out-cases day k P f g RQ c = g _
-out-cases day k P f g RL c = g _
-out-cases day k P f g TR c = g _
-out-cases day k P f g RS c = g _
-out-cases day k P f g FR c = g _
-out-cases day k P f g ET c = g _
-out-cases day k P f g LV c = g _
-out-cases day k P f g TG c = g _
-out-cases day k P f g EI c = g _
-out-cases day k P f g XI c = g _
-out-cases day k P f g TI c = g _
+out-cases day k c P f g = byBool (declares (c .head .mark)) (λ e. rw e (f e)) (λ e. rw e (g e))
+
+-- It has number 0.
+pub done-number : (day : ℕ) (k : State) (c : Call) → carryOut day k c .answer .number ≡ 0
+unfolding finish declared
+done-number day k c = out-cases day k c (λ t. t .answer .number ≡ 0) (λ e. refl) (λ e. refl)
+
+-- What a declaration leaves.
+pub declaration-cases : (m : Mark) (c : Call) (k : State) (P : State → Type 0)
+    → (m ≡ DT → P (addTask (c .head .priority) k)) → (m ≡ DS → P (addSemaphore (c .head .first) k)) → (m ≡ DB → P (addBolt k))
+    → (m ≡ IT → P (addInterrupt k)) → (m ≡ DC → P (withClock (c .head .first) k)) → P k → P (declaration m c k)
+unfolding declaration
+declaration-cases m c k P dt ds db it dc none =
+    byBool (is m DT) (λ e. rw e (dt (is-mark m DT e)))
+    (λ e. rw e (byBool (is m DS) (λ e. rw e (ds (is-mark m DS e)))
+    (λ e. rw e (byBool (is m DB) (λ e. rw e (db (is-mark m DB e)))
+    (λ e. rw e (byBool (is m IT) (λ e. rw e (it (is-mark m IT e)))
+    (λ e. rw e (byBool (is m DC) (λ e. rw e (dc (is-mark m DC e))) (λ e. rw e none)))))))))
+
+-- A call that was read is refused or carried out.
+pub carried-by : (day : ℕ) (k : State) (c : Call) → carryOn day k c ≡ orRefuse k (refusalOf day k c) (carryOut day k c)
+unfolding carryOn settle refusalOf
+carried-by day k c = go (formalRefusal day (k .counts) (k .begun) c)
+  where
+    go : (n : ℕ) → orRefuse k n (orRefuse k (stateRefusal (c .head .mark) k c) (carryOut day k c))
+        ≡ orRefuse k (before n (stateRefusal (c .head .mark) k c)) (carryOut day k c)
+    go zero = refl
+    go (suc n) = refl
+
+-- The step on bytes that open so.
+abbrev pub stepOpened : ℕ → State → Read → List ℕ → Stepped
+stepOpened day k (Refused n) l = refuse k n (runner k)
+stepOpened day k (Accepted h) l = carryOn day k (callWith h l)
+
+pub read-opened : (day : ℕ) (k : State) (s : List ℕ) → let r = admitted day (k .counts) (k .begun) s in
+    stepRead day k (r .answer) (r .list) ≡ stepOpened day k (opened s .answer) (opened s .list)
+unfolding admittedIf carryOn
+read-opened day k s =
+    opened-cases s
+    (λ o. let r = admittedIf day (k .counts) (k .begun) (o .answer) o in
+    stepRead day k (r .answer) (r .list) ≡ stepOpened day k (o .answer) (o .list))
+    refl (λ c. go c (formalRefusal day (k .counts) (k .begun) c))
+  where
+    go : (c : Call) (n : ℕ) → let r = orRefused n (accepted c) in
+        stepRead day k (r .answer) (r .list) ≡ orRefuse k n (settle day k c)
+    go c zero = refl
+    go c (suc n) = refl
+
+pub step-on : (day : ℕ) (k : State) (s : List ℕ) → valid day k ≡ true → step day k s ≡ stepOpened day k (opened s .answer) (opened s .list)
+unfolding step
+step-on day k s e = rw e (read-opened day k s)
 
 module _ (day : ℕ) (k : State) (P : Stepped → Type 0)
     (failed : valid day k ≡ false → P (refuse k 1 Idle))
     (turnedAway : valid day k ≡ true → (n : ℕ) → 2 ≤ n → n ≤ 15 → P (refuse k n (runner k)))
-    (done : valid day k ≡ true → (c : Call) → refusalOf day k c ≡ 0 → P (carryOut day (c .head .mark) k c)) where
+    (done : valid day k ≡ true → (c : Call) → refusalOf day k c ≡ 0 → P (carryOut day k c)) where
   on-cases : valid day k ≡ true → (c : Call) → P (carryOn day k c)
-  unfolding carryOn
-  on-cases v c = go (refusalOf day k c) refl
+  on-cases v c = rw (carried-by day k c) (go (refusalOf day k c) refl)
     where
-      go : (n : ℕ) → refusalOf day k c ≡ n → P (orRefuse k n (carryOut day (c .head .mark) k c))
+      go : (n : ℕ) → refusalOf day k c ≡ n → P (orRefuse k n (carryOut day k c))
       go zero e = done v c e
       go (suc n) e = let h : Late (suc n) = rw e at (late-refusal day k c) in turnedAway v (suc n) (omega arith) (omega arith)
 
   pub step-cases : (s : List ℕ) → P (step day k s)
-  unfolding step
   step-cases s =
       byBool (valid day k)
-      (λ v. rw v (opened-cases s (λ r. P (stepRead day k (r .answer) (r .list))) (turnedAway v 2 (omega arith) (omega arith)) (on-cases v)))
-      (λ v. rw v (failed v))
+      (λ v. rw (step-on day k s v) (opened-cases s (λ r. P (stepOpened day k (r .answer) (r .list))) (turnedAway v 2 (omega arith) (omega arith)) (on-cases v)))
+      (λ v. unfold step in rw v (failed v))

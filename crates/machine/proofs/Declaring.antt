@@ -31,11 +31,9 @@ use Rattle.machine.specs.declared.State.{State}
 use Rattle.machine.specs.State.{mostTasks, mostSemaphores, mostBolts, mostInterrupts, taskAt, countOf, freshTask, withState, withCounts, withClock}
 use Rattle.machine.specs.Granting.{couldBeGranted, servable}
 use Rattle.machine.specs.Test.{isPriority, termsOk, listenerOk, nextOk, scheduleOk}
-use Rattle.machine.specs.Refusals.{roomFor}
 use Rattle.machine.specs.Calls.{addTask, addSemaphore, addBolt, addInterrupt}
-use Rattle.machine.proofs.Passed.{Fits}
+use Rattle.machine.proofs.Passed.{Passed, Fits, room-task, room-semaphore, room-bolt, room-interrupt}
 use Rattle.machine.proofs.Facts.{TaskOk, Bounded, bounded-of, StateOk}
-use Rattle.machine.proofs.Accepting.{Passed}
 
 -- ---- with more declared
 
@@ -113,29 +111,13 @@ formed-ranged f c e =
     both (cleanStart (uses f (c .head)) (c .head)) (ranged f (c .head)) (both (cleanNames (uses f (c .head)) c) (cleanStart (uses f (c .head)) (c .head) && ranged f (c .head)) e .1) .1
 
 module _ (day : ℕ) (k : State) (h : StateOk day k) (c : Call) where
-  pub room-DT : Passed day DT k c → k .counts .tasks < mostTasks
-  unfolding roomFor
-  room-DT p = ltb-true _ _ (both (ltb (k .counts .tasks) mostTasks) true (both _ true (both _ true (p .room) .0) .0) .0)
-
-  pub room-DS : Passed day DS k c → k .counts .semaphores < mostSemaphores
-  unfolding roomFor
-  room-DS p = ltb-true _ _ (both (ltb (k .counts .semaphores) mostSemaphores) true (both _ true (p .room) .0) .0)
-
-  pub room-DB : Passed day DB k c → k .counts .bolts < mostBolts
-  unfolding roomFor
-  room-DB p = ltb-true _ _ (both (ltb (k .counts .bolts) mostBolts) true (p .room) .0)
-
-  pub room-IT : Passed day IT k c → k .counts .interrupts < mostInterrupts
-  unfolding roomFor
-  room-IT p = ltb-true _ _ (p .room)
-
-  pub priority-DT : c .head .priority ≤ 255 → Passed day DT k c → isPriority (c .head .priority) ≡ true
+  priority-DT : c .head .priority ≤ 255 → Passed day DT k c → isPriority (c .head .priority) ≡ true
   unfolding ranged
-  priority-DT b p = and-both (formed-ranged DeclaredPriority c (p .formed)) (le-leb _ _ b)
+  priority-DT b p = and-both (formed-ranged DeclaredPriority c (p .formal .formed)) (le-leb _ _ b)
 
   preset-DS : Passed day DS k c → c .head .first ≤ mostValue
   unfolding ranged
-  preset-DS p = leb-true _ _ (formed-ranged Preset c (p .formed))
+  preset-DS p = leb-true _ _ (formed-ranged Preset c (p .formal .formed))
 
   -- ---- the five declarations
 
@@ -152,7 +134,7 @@ module _ (day : ℕ) (k : State) (h : StateOk day k) (c : Call) where
   task-added b p =
       let n = k .counts .tasks in
       let q = c .head .priority in
-      let room = room-DT p in
+      let room = room-task (k .counts) (p .formal .room) in
       let counts = h .counts-ok in
       let at-new = getD-set-same (k .tasks) n (freshTask q) noTask (omega (arith, h .tables .tasks)) in
       record {
@@ -192,7 +174,7 @@ module _ (day : ℕ) (k : State) (h : StateOk day k) (c : Call) where
   semaphore-added p =
       let n = k .counts .semaphores in
       let v = c .head .first in
-      let room = room-DS p in
+      let room = room-semaphore (k .counts) (p .formal .room) in
       let preset = preset-DS p in
       let o = h .counts-ok in
       added _ (withValue (k .locks) n v) (k .enabled) refl (record { tasks = o .tasks; semaphores = omega arith; bolts = o .bolts; interrupts = o .interrupts })
@@ -211,7 +193,7 @@ module _ (day : ℕ) (k : State) (h : StateOk day k) (c : Call) where
   unfolding addBolt
   bolt-added p =
       let n = k .counts .bolts in
-      let room = room-DB p in
+      let room = room-bolt (k .counts) (p .formal .room) in
       let o = h .counts-ok in
       added _ (withBolt (k .locks) n emptyBolt) (k .enabled) refl (record { tasks = o .tasks; semaphores = o .semaphores; bolts = omega arith; interrupts = o .interrupts })
       (record { semaphores = omega arith; bolts = omega arith; interrupts = omega arith }) (size-bolt (k .locks) n emptyBolt) refl
@@ -229,7 +211,7 @@ module _ (day : ℕ) (k : State) (h : StateOk day k) (c : Call) where
   unfolding addInterrupt
   interrupt-added p =
       let n = k .counts .interrupts in
-      let room = room-IT p in
+      let room = room-interrupt (k .counts) (p .formal .room) in
       let o = h .counts-ok in
       added _ (k .locks) (set (k .enabled) n false) refl (record { tasks = o .tasks; semaphores = o .semaphores; bolts = o .bolts; interrupts = omega arith })
       (record { semaphores = omega arith; bolts = omega arith; interrupts = omega arith }) (size-refl (k .locks)) (length-set (k .enabled) n false)
@@ -241,7 +223,7 @@ module _ (day : ℕ) (k : State) (h : StateOk day k) (c : Call) where
       record {
         tables = record { tasks = h .tables .tasks; semaphores = h .tables .semaphores; bolts = h .tables .bolts; enabled = h .tables .enabled };
         now-ok = h .now-ok;
-        clock-ok = ltb-true _ _ (p .timed);
+        clock-ok = ltb-true _ _ (p .formal .timed);
         counts-ok = h .counts-ok;
         bounded = h .bounded;
         tasks-ok = h .tasks-ok;

@@ -11,11 +11,12 @@ use Rattle.layout.specs.declared.Call.{Call}
 use Rattle.machine.specs.declared.State.{State}
 use Rattle.machine.specs.Step.{carry, step}
 use Rattle.machine.specs.Promises.{StepIsCarry, StepOfWritten}
+use Rattle.machine.proofs.Cases.{read-opened}
 use Rattle.record.proofs.OpenedLaws.{bytes-opened}
 
 pub joined-from : (day : ℕ) (k : State) (s : List ℕ) (c : Call) → opened s ≡ accepted c → step day k s ≡ carry day k c
 unfolding step carry
-joined-from day k s c e = rw e
+joined-from day k s c e = rw (read-opened day k s, e)
 
 pub step-is-carry : StepIsCarry
 step-is-carry day k c e = joined-from day k (bytesOf c) c (bytes-opened c e)

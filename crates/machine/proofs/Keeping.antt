@@ -21,11 +21,11 @@ use Rattle.task.specs.declared.Turn.{Turn}
 use Rattle.machine.specs.declared.State.{State}
 use Rattle.machine.specs.declared.Counts.{Counts}
 use Rattle.machine.specs.State.{taskAt}
-use Rattle.machine.specs.Work.{Work, onlyLocks, oneTurn, everyTurn}
+use Rattle.machine.specs.Work.{Work, changed, everyTurn}
 use Rattle.machine.specs.Serving.{Served}
 use Rattle.machine.specs.Step.{finish}
 use Rattle.machine.proofs.Facts.{Listed, TaskOk, Bounded, StateOk, proper-list, task-room}
-use Rattle.machine.proofs.Works.{turn-at, every-length}
+use Rattle.machine.proofs.Works.{oneTurn, onlyLocks, turn-at, every-length}
 use Rattle.machine.proofs.Done.{Role, Did, turned, everyone, quiet, gave, got, waits, tried, runs}
 use Rattle.machine.proofs.Serving.{ServedOk, grant-ok, serve-keeps, serving-ends}
 
@@ -52,7 +52,7 @@ wait-ok day n w len l t a q h =
 
 module _ (day : ℕ) (k : State) (h : StateOk day k) where
   one-ok : (i : ℕ) (u : Turn) → i < k .counts .tasks → TaskOk day (k .counts) (u .task) → WorkOk day k (oneTurn k i u)
-  unfolding oneTurn
+  unfolding changed
   one-ok i u l o =
       record {
         now-ok = h .now-ok;

@@ -3,14 +3,14 @@ pub mod Sets
 pub mod Below
 pub mod Urgency
 pub mod Passed
+pub mod Sorts
 pub mod Cases
 pub mod Rows
 -- The kernel test as facts, and what keeps it.
 pub mod Facts
 pub mod Schedules
 pub mod Turns
-pub mod Accepting
-pub mod Marks
+pub mod Opened
 pub mod Works
 pub mod Done
 pub mod Serving

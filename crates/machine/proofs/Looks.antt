@@ -1,15 +1,16 @@
 -- The running task, the test of a kernel and refusals look only at what is declared.
-use mathlib.Core.Path.{_≡_, refl, ap}
-use mathlib.Core.Bool.{Bool, true, false, not, _&&_}
+use mathlib.Core.Path.{_≡_, refl, ap, _∙_}
+use mathlib.Core.Bool.{Bool, true, false, not, _&&_, _||_}
 use mathlib.Core.List.{List}
 use Prim.Native.Nat.{ℕ, zero, suc, _<_}
 use native.Mathlib.Omega.{arith}
-use lib.Dec.{leb, ltb, eqb}
+use lib.Dec.{leb, ltb}
 use borrow.Author.Tests.{ltb-true}
 use Rattle.calendar.specs.Limits.{lastInstant, isTimeOfDay}
-use Rattle.record.specs.Refusals.{mostValue, named, unless, before}
+use Rattle.calendar.specs.declared.Instant.{Instant}
+use Rattle.record.specs.Refusals.{mostValue, named, before}
 use Rattle.layout.specs.declared.Mark.{Mark}
-use Rattle.layout.specs.declared.Mark.the-variants.{DT, DS, DB, IT, DC, AC, TE, SU, PR, CO, EN, RE, RQ, RL, TR, RS, FR, ET, LV, TG, EI, XI, TI}
+use Rattle.layout.specs.declared.Mark.the-variants.{AC, TE, SU, CO}
 use Rattle.layout.specs.declared.Call.{Call}
 use Rattle.lock.specs.Locks.{waiting, free, taken, every, valueAt, boltAt}
 use Rattle.lock.specs.declared.Wait.{Wait}
@@ -18,18 +19,23 @@ use Rattle.lock.specs.declared.Locks.{Locks}
 use Rattle.lock.proofs.Bools.{both}
 use Rattle.lock.proofs.Lists.{every-below}
 use Rattle.lock.proofs.Alike.{below, Seen, free-same, taken-same}
-use Rattle.task.specs.State.{unheld, suspended, wanted}
+use Rattle.task.specs.State.{wanted}
 use Rattle.task.specs.declared.Task.{Task}
 use Rattle.machine.specs.declared.Counts.{Counts}
 use Rattle.machine.specs.declared.State.{State}
+use Rattle.machine.specs.declared.Running.{Running}
+use Rattle.machine.specs.declared.Sort.{Sort}
+use Rattle.machine.specs.declared.Sort.the-variants.{Declaration, OneTask, TheRunner, ListAsked, ListGiven, AnInterrupt, EveryTask}
 use Rattle.machine.specs.State.{taskAt, countOf, withState}
 use Rattle.machine.specs.Running.{urgency, runningOf, runner}
 use Rattle.machine.specs.Granting.{couldBeGranted, servable}
 use Rattle.machine.specs.Test.{taskOk, allBelow, countsOk, nobodyServable, valid}
-use Rattle.machine.specs.Refusals.{listDeclared, declaredIn, formalRefusal, stateRefusalOf, refusalOf}
+use Rattle.machine.specs.Sorts.{sortOf, givenKind, runnerAt, placeOf}
+use Rattle.machine.specs.Refusals.{listDeclared, declaredBy, declaredIn, formalRefusal, refusalBy, stateRefusal}
 use Rattle.machine.proofs.Urgency.{scan-same}
 use Rattle.machine.proofs.Below.{all-at}
-use Rattle.machine.proofs.Passed.{formal, Listed, listed-task}
+use Rattle.machine.proofs.Sorts.{naming, other-mark}
+use Rattle.machine.proofs.Passed.{refusalOf, formal, Listed, listed-task}
 
 pub count-below : (n : Counts) (w : Wait) → countOf n w ≡ below (n .semaphores) (n .bolts) w
 count-below n Nothing = refl
@@ -92,6 +98,11 @@ in-parts : (day : ℕ) (k : State) → valid day k ≡ (limitsOk day k && tasksO
 unfolding valid
 in-parts day k = refl
 
+-- A call that names no task isn't refused for one.
+unlooked : (m : Mark) (c : Call) (x : Running) (l : Locks) (n : Instant) → naming (sortOf m) ≡ false → (t t′ : Task) → refusalBy m c x t l n ≡ refusalBy m c x t′ l n
+unfolding refusalBy
+unlooked m c x l n e t t′ = rw (other-mark m AC refl e, other-mark m TE refl e, other-mark m SU refl e, other-mark m CO refl e)
+
 -- ---- a kernel and one with other tables
 
 module _ (k : State) (ts : List Task) (r : Locks) (is : List Bool)
@@ -133,33 +144,45 @@ module _ (k : State) (ts : List Task) (r : Locks) (is : List Bool)
   gives-same : (w : Wait) (c : Call) → listDeclared (k .counts) w c ≡ true → every (taken w (k .locks)) (named c) ≡ every (taken w r) (named c)
   gives-same w c e = taken-all-same (k .counts) (k .tasks) ts same (k .locks) r seen w (named c) e
 
-  state-same : (m : Mark) (c : Call) → declaredIn m (k .counts) c ≡ true → stateRefusalOf m k c ≡ stateRefusalOf m k′ c
-  unfolding stateRefusalOf declaredIn
-  state-same DT c e = refl
-  state-same DS c e = refl
-  state-same DB c e = refl
-  state-same IT c e = refl
-  state-same DC c e = refl
-  state-same AC c e =
-      ap (λ (t : Task). unless (not (eqb (c .head .kind) 0 && t .alive)) 9 0)
-      (task-same (c .head .number) (both (ltb (c .head .number) (k .counts .tasks)) _ e .0))
-  state-same TE c e = ap (λ (t : Task). unless (t .alive) 10 0) (task-same (c .head .number) e)
-  state-same SU c e = ap (λ (t : Task). unless (t .alive) 10 (unless (not (suspended (t .hold))) 11 0)) (task-same (c .head .number) e)
-  state-same PR c e = refl
-  state-same CO c e = ap (λ (t : Task). unless (t .alive) 10 (unless (not (unheld (t .hold))) 12 0)) (task-same (c .head .number) e)
-  state-same EN c e = rw runner-same
-  state-same RE c e = rw runner-same
-  state-same RQ c e = rw runner-same
-  state-same RL c e = rw (runner-same, gives-same Request c e)
-  state-same TR c e = rw runner-same
-  state-same RS c e = rw runner-same
-  state-same FR c e = rw (runner-same, gives-same Reserve c e)
-  state-same ET c e = rw runner-same
-  state-same LV c e = rw (runner-same, gives-same Enter c e)
-  state-same TG c e = refl
-  state-same EI c e = refl
-  state-same XI c e = refl
-  state-same TI c e = refl
+  -- What is given back, where the call is of a sort.
+  given-same : (s : Sort) (c : Call) → declaredBy s (k .counts) c ≡ true
+      → (not (waiting (givenKind s)) || every (taken (givenKind s) (k .locks)) (named c)) ≡ (not (waiting (givenKind s)) || every (taken (givenKind s) r) (named c))
+  unfolding declaredBy
+  given-same Declaration c e = refl
+  given-same OneTask c e = refl
+  given-same TheRunner c e = refl
+  given-same (ListAsked w b) c e = refl
+  given-same (ListGiven w) c e = rw (gives-same w c e)
+  given-same AnInterrupt c e = refl
+  given-same EveryTask c e = refl
+
+  -- The task is looked at where the call names one.
+  about-same : (m : Mark) (c : Call) (x : Running) (l : Locks) (n : Instant) → declaredIn m (k .counts) c ≡ true
+      → refusalBy m c x (taskAt (k .tasks) (placeOf (sortOf m) (c .head) x)) l n ≡ refusalBy m c x (taskAt ts (placeOf (sortOf m) (c .head) x)) l n
+  about-same m c x l n = go (sortOf m) refl
+    where
+      unseen : naming (sortOf m) ≡ false → (i : ℕ) → refusalBy m c x (taskAt (k .tasks) i) l n ≡ refusalBy m c x (taskAt ts i) l n
+      unseen e i = unlooked m c x l n e (taskAt (k .tasks) i) (taskAt ts i)
+
+      go : (s : Sort) → sortOf m ≡ s → declaredBy s (k .counts) c ≡ true
+          → refusalBy m c x (taskAt (k .tasks) (placeOf s (c .head) x)) l n ≡ refusalBy m c x (taskAt ts (placeOf s (c .head) x)) l n
+      go Declaration q e = unseen (rw q) (runnerAt x)
+      go OneTask q e =
+          ap (λ (t : Task). refusalBy m c x t l n)
+          (task-same (c .head .number) (unfold declaredBy in both (ltb (c .head .number) (k .counts .tasks)) _ e .0))
+      go TheRunner q e = unseen (rw q) (runnerAt x)
+      go (ListAsked w b) q e = unseen (rw q) (runnerAt x)
+      go (ListGiven w) q e = unseen (rw q) (runnerAt x)
+      go AnInterrupt q e = unseen (rw q) (runnerAt x)
+      go EveryTask q e = unseen (rw q) (runnerAt x)
+
+  locks-same : (m : Mark) (c : Call) (x : Running) (t : Task) (n : Instant) → declaredIn m (k .counts) c ≡ true
+      → refusalBy m c x t (k .locks) n ≡ refusalBy m c x t r n
+  unfolding refusalBy
+  locks-same m c x t n e = rw (given-same (sortOf m) c e)
+
+  pub state-same : (m : Mark) (c : Call) → declaredIn m (k .counts) c ≡ true → stateRefusal m k c ≡ stateRefusal m k′ c
+  state-same m c e = rw (← runner-same) (about-same m c (runner k) (k .locks) (k .now) e ∙ locks-same m c (runner k) _ (k .now) e)
 
   pub refusal-same : (day : ℕ) (c : Call) → refusalOf day k c ≡ refusalOf day k′ c
   unfolding refusalOf

@@ -9,7 +9,6 @@ use Rattle.layout.specs.Marks.{form}
 use Rattle.record.specs.Refusals.{unless, before, formed, listed, timed, shape, times, refusal}
 use Rattle.record.specs.Reading.{accepted, opened, orRefused, judged, reading}
 use Rattle.layout.specs.declared.Mark.{Mark}
-use Rattle.layout.specs.declared.Mark.the-variants.{DT, DS, DB, IT, DC, AC, TE, SU, PR, CO, EN, RE, RQ, RL, TR, RS, FR, ET, LV, TG, EI, XI, TI}
 use Rattle.layout.specs.declared.Call.{Call}
 use Rattle.record.specs.declared.Read.the-variants.{Refused, Accepted}
 use Rattle.record.proofs.ReaderLaws.{before-some}
@@ -18,10 +17,14 @@ use Rattle.machine.specs.declared.Counts.{Counts}
 use Rattle.machine.specs.declared.State.{State}
 use Rattle.machine.specs.Running.{runner}
 use Rattle.machine.specs.Test.{valid}
-use Rattle.machine.specs.Refusals.{declares, declaredIn, formalRefusal, refusalOf}
-use Rattle.machine.specs.Step.{refuse, carryOn, stepRead, step}
+use Rattle.machine.specs.declared.Sort.{Sort}
+use Rattle.machine.specs.declared.Sort.the-variants.{Declaration, OneTask, TheRunner, ListAsked, ListGiven, AnInterrupt, EveryTask}
+use Rattle.machine.specs.Sorts.{sortOf, declaring, declares}
+use Rattle.machine.specs.Refusals.{declaredBy, declaredIn, formalRefusal}
+use Rattle.machine.specs.Step.{refuse, carryOn, step}
 use Rattle.machine.specs.Promises.{numberFor, RefusedByReader, Order, RefusalsInOrder}
-use Rattle.machine.proofs.Cases.{opened-cases}
+use Rattle.machine.proofs.Passed.{refusalOf}
+use Rattle.machine.proofs.Cases.{opened-cases, carried-by, stepOpened, step-on}
 
 -- ---- shape or times
 
@@ -68,9 +71,8 @@ module _ (day : ℕ) (k : State) (c : Call) where
       chain (shape c) (times day (c .head)) (times-six day c) h late known _ _
 
   on-refused : (n : ℕ) → refusalOf day k c ≡ n → n ≢ 0 → carryOn day k c ≡ refuse k n (runner k)
-  unfolding carryOn
   on-refused zero e h = absurd (h refl)
-  on-refused (suc n) e h = rw e
+  on-refused (suc n) e h = carried-by day k c ∙ rw e
 
   carried : refusal day c ≢ 0 → carryOn day k c ≡ refuse k number (runner k)
   carried h = on-refused number (refused-number h) (first-some late known (shape c))
@@ -81,11 +83,11 @@ read-number zero n c e = let z : _≡_ {A = ℕ} 0 1 = cc in absurd (omega arith
 read-number (suc m) n c e = let q : suc m ≡ n = cc in (q, λ z. omega arith)
 
 pub refused-by-reader : RefusedByReader
-unfolding step judged
+unfolding judged
 refused-by-reader day k s n v e =
-    rw v
+    rw (step-on day k s v)
     (opened-cases s
-    (λ r. judged day (r .answer) r .answer ≡ Refused n → stepRead day k (r .answer) (r .list) ≡ refuse k (numberFor k (r .answer) (r .list)) (runner k))
+    (λ r. judged day (r .answer) r .answer ≡ Refused n → stepOpened day k (r .answer) (r .list) ≡ refuse k (numberFor k (r .answer) (r .list)) (runner k))
     (λ e. refl) (λ c e. let (q, h) = read-number (refusal day c) n c e in carried day k c (λ z. h (sym q ∙ z))) e)
 
 -- ---- where the numbers part
@@ -110,39 +112,25 @@ shape-small c = small (formed c) (listed (form (c .head .mark)) c)
 
 -- A declaration names nothing.
 not-declared : (m : Mark) (n : Counts) (c : Call) → declaredIn m n c ≡ false → declares m ≡ false
-unfolding declares declaredIn
-not-declared DT n c e = contra refl e
-not-declared DS n c e = contra refl e
-not-declared DB n c e = contra refl e
-not-declared IT n c e = contra refl e
-not-declared DC n c e = contra refl e
-not-declared AC n c e = refl
-not-declared TE n c e = refl
-not-declared SU n c e = refl
-not-declared PR n c e = refl
-not-declared CO n c e = refl
-not-declared EN n c e = refl
-not-declared RE n c e = refl
-not-declared RQ n c e = refl
-not-declared RL n c e = refl
-not-declared TR n c e = refl
-not-declared RS n c e = refl
-not-declared FR n c e = refl
-not-declared ET n c e = refl
-not-declared LV n c e = refl
-not-declared TG n c e = refl
-not-declared EI n c e = refl
-not-declared XI n c e = refl
-not-declared TI n c e = refl
+unfolding declares declaredBy
+not-declared m n c = go (sortOf m)
+  where
+    go : (s : Sort) → declaredBy s n c ≡ false → declaring s ≡ false
+    go Declaration e = contra refl e
+    go OneTask e = refl
+    go TheRunner e = refl
+    go (ListAsked w b) e = refl
+    go (ListGiven w) e = refl
+    go AnInterrupt e = refl
+    go EveryTask e = refl
 
 and-false : (a b : Bool) → b ≡ false → (a && b) ≡ false
 and-false true b e = e
 and-false false b e = refl
 
 module _ (day : ℕ) (k : State) (s : List ℕ) (c : Call) (v : valid day k ≡ true) (o : opened s ≡ accepted c) where
-  step-on : step day k s ≡ carryOn day k c
-  unfolding step
-  step-on = rw (v, o)
+  stepped : step day k s ≡ carryOn day k c
+  stepped = step-on day k s v ∙ rw o
 
   read : (n : ℕ) → reading day s .answer ≡ Refused n → (refusal day c ≡ n) × (n ≢ 0)
   unfolding judged
@@ -150,7 +138,7 @@ module _ (day : ℕ) (k : State) (s : List ℕ) (c : Call) (v : valid day k ≡ 
 
   -- What the reader refuses, by its number.
   by-reader : (n m : ℕ) → reading day s .answer ≡ Refused n → numberFor k (Accepted (c .head)) (c .list) ≡ m → step day k s ≡ refuse k m (runner k)
-  by-reader n m e q = let (r, h) = read n e in step-on ∙ carried day k c (λ z. h (sym r ∙ z)) ∙ ap (λ (i : ℕ). refuse k i (runner k)) q
+  by-reader n m e q = let (r, h) = read n e in stepped ∙ carried day k c (λ z. h (sym r ∙ z)) ∙ ap (λ (i : ℕ). refuse k i (runner k)) q
 
   two : k .begun ≡ true → declares (c .head .mark) ≡ true → refusalOf day k c ≡ 2
   unfolding refusalOf formalRefusal
@@ -167,7 +155,7 @@ module _ (day : ℕ) (k : State) (s : List ℕ) (c : Call) (v : valid day k ≡ 
   in-order : Order day k s c
   in-order =
       record {
-        late = λ b d. step-on ∙ on-refused day k c 2 (two b d) (λ z. omega arith);
+        late = λ b d. stepped ∙ on-refused day k c 2 (two b d) (λ z. omega arith);
         shaped = λ n l e g. by-reader n n e (rw (l, shape-read n e g) (sym (before-some n _ (read n e .1))));
         unknown = λ e d. by-reader 6 5 e (rw (and-false (k .begun) _ (not-declared (c .head .mark) (k .counts) c d), shape-passed e, d));
         timed = λ l e d. by-reader 6 6 e (rw (l, shape-passed e, d));

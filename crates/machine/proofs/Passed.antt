@@ -1,27 +1,34 @@
 -- What a call or declaration that isn't refused has passed, and what a kernel that passes the test has.
-use mathlib.Core.Path.{_≡_, refl}
-use mathlib.Core.Bool.{Bool, true, false, not, _&&_}
+use mathlib.Core.Path.{_≡_, refl, subst}
+use mathlib.Core.Bool.{Bool, true, false, not, _&&_, _||_}
 use Prim.Native.Nat.{ℕ, zero, suc, _≤_, _<_}
 use native.Mathlib.Omega.{arith}
-use lib.Dec.{leb, ltb}
-use borrow.Author.Tests.{leb-true, ltb-true, not-true}
+use lib.Dec.{leb, ltb, eqb}
+use borrow.Author.Tests.{leb-true, ltb-true}
 use Rattle.calendar.specs.Limits.{lastInstant, isTimeOfDay}
-use Rattle.record.specs.Refusals.{mostValue, mostNumbers, unless, before, shape, times}
+use Rattle.calendar.specs.declared.Instant.{Instant}
+use Rattle.layout.specs.Marks.{is, form}
+use Rattle.layout.specs.declared.Mark.{Mark}
+use Rattle.record.specs.Refusals.{mostValue, mostNumbers, formedAs, formed, named, listed, timed, unless, before, shape, times}
 use Rattle.record.specs.Lists.{distinct}
-use Rattle.layout.specs.declared.Mark.the-variants.{DT, DS, DB, IT}
+use Rattle.layout.specs.declared.Mark.the-variants.{DT, DS, DB, IT, AC, TE, SU, CO, TI}
 use Rattle.layout.specs.declared.Call.{Call}
-use Rattle.lock.specs.Locks.{mostLocks, waiting, every, valueAt, boltAt}
+use Rattle.lock.specs.Locks.{mostLocks, waiting, every, taken, valueAt, boltAt}
+use Rattle.lock.specs.declared.Locks.{Locks}
 use Rattle.lock.specs.declared.Wait.{Wait}
 use Rattle.lock.specs.declared.Wait.the-variants.{Nothing, Request, Reserve, Enter}
 use Rattle.machine.proofs.Below.{all-at}
 use Rattle.lock.proofs.Bools.{both}
-use Rattle.task.specs.State.{wanted}
+use Rattle.task.specs.State.{unheld, suspended, wanted}
 use Rattle.task.specs.declared.Task.{Task}
 use Rattle.machine.specs.declared.Counts.{Counts}
 use Rattle.machine.specs.declared.State.{State}
+use Rattle.machine.specs.declared.Running.{Running}
 use Rattle.machine.specs.State.{mostTasks, mostSemaphores, mostBolts, mostInterrupts, taskAt, countOf}
 use Rattle.machine.specs.Test.{between, isPriority, keptOk, holdOk, restOk, waitOk, scheduleOk, taskOk, allBelow, countsOk, nobodyServable, valid}
-use Rattle.machine.specs.Refusals.{declares, declaredIn, roomFor, formalRefusal, stateRefusal, refusalOf}
+use Rattle.machine.specs.Running.{someone}
+use Rattle.machine.specs.Sorts.{sortOf, declares, needsRunner, givenKind}
+use Rattle.machine.specs.Refusals.{declaredIn, roomFor, formalRefusal, unreturnable, refusalBy, stateRefusal}
 
 -- ---- a call or declaration
 
@@ -33,30 +40,78 @@ pub before-passed : (n rest : ℕ) → before n rest ≡ 0 → (n ≡ 0) × (res
 before-passed zero rest e = (refl, e)
 before-passed (suc n) rest e = absurd (omega arith)
 
--- By what the call, the counts and the first accepted call decide.
-pub record Formal (day : ℕ) (n : Counts) (begun : Bool) (c : Call) : Type 0 where
-  pub timely : (begun && declares (c .head .mark)) ≡ false
-  pub shaped : shape c ≡ 0
-  pub known : declaredIn (c .head .mark) n c ≡ true
-  pub timed : times day (c .head) ≡ 0
-  pub room : roomFor (c .head .mark) n ≡ true
+-- No ground by what bytes, counts and the first accepted call decide, for a call with the mark m.
+pub record Formal (day : ℕ) (m : Mark) (n : Counts) (begun : Bool) (c : Call) : Type 0 where
+  pub timely : not (begun && declares m) ≡ true
+  pub formed : formedAs (form m) c ≡ true
+  pub listed : listed (form m) c ≡ true
+  pub known : declaredIn m n c ≡ true
+  pub timed : timed day (form m) (c .head) ≡ true
+  pub room : roomFor m n ≡ true
 
-pub formal : (day : ℕ) (n : Counts) (begun : Bool) (c : Call) → formalRefusal day n begun c ≡ 0 → Formal day n begun c
-unfolding formalRefusal
+pub formal : (day : ℕ) (n : Counts) (begun : Bool) (c : Call) → formalRefusal day n begun c ≡ 0 → Formal day (c .head .mark) n begun c
+unfolding formalRefusal shape formed times
 formal day n begun c e =
-    let a = unless-passed (not (begun && declares (c .head .mark))) 1 _ e in
+    let m = c .head .mark in
+    let a = unless-passed (not (begun && declares m)) 1 _ e in
     let b = before-passed (shape c) _ (a .1) in
-    let d = unless-passed (declaredIn (c .head .mark) n c) 4 _ (b .1) in
-    let f = before-passed (times day (c .head)) _ (d .1) in
-    let g = unless-passed (roomFor (c .head .mark) n) 6 0 (f .1) in
-    record { timely = not-true _ (a .0); shaped = b .0; known = d .0; timed = f .0; room = g .0 }
+    let f = unless-passed (formedAs (form m) c) 2 _ (b .0) in
+    let l = unless-passed (listed (form m) c) 3 0 (f .1) in
+    let d = unless-passed (declaredIn m n c) 4 _ (b .1) in
+    let g = before-passed (times day (c .head)) _ (d .1) in
+    let t = unless-passed (timed day (form m) (c .head)) 5 0 (g .0) in
+    let r = unless-passed (roomFor m n) 6 0 (g .1) in
+    record { timely = a .0; formed = f .0; listed = l .0; known = d .0; timed = t .0; room = r .0 }
 
-pub passed : (day : ℕ) (k : State) (c : Call) → refusalOf day k c ≡ 0
-    → Formal day (k .counts) (k .begun) c × (stateRefusal k c ≡ 0)
+-- No ground of the state, for a call with the mark m.
+pub record Unrefused (m : Mark) (c : Call) (r : Running) (t : Task) (l : Locks) (n : Instant) : Type 0 where
+  pub runs : (not (needsRunner (sortOf m)) || someone r) ≡ true
+  pub ended : (not (is m AC && eqb (c .head .kind) 0) || not (t .alive)) ≡ true
+  pub lives : (not (is m TE || is m SU || is m CO) || t .alive) ≡ true
+  pub unsuspended : (not (is m SU) || not (suspended (t .hold))) ≡ true
+  pub held : (not (is m CO) || not (unheld (t .hold))) ≡ true
+  pub returnable : (not (waiting (givenKind (sortOf m))) || every (taken (givenKind (sortOf m)) l) (named c)) ≡ true
+  pub goes : (not (is m TI) || ltb (n .0) lastInstant) ≡ true
+
+unreturnable-passed : (w : Wait) (b : Bool) (rest : ℕ) → unless b (unreturnable w) rest ≡ 0 → (b ≡ true) × (rest ≡ 0)
+unreturnable-passed Nothing b rest e = unless-passed b 13 rest e
+unreturnable-passed Request b rest e = unless-passed b 12 rest e
+unreturnable-passed Reserve b rest e = unless-passed b 13 rest e
+unreturnable-passed Enter b rest e = unless-passed b 13 rest e
+
+pub unrefused : (m : Mark) (c : Call) (r : Running) (t : Task) (l : Locks) (n : Instant) → refusalBy m c r t l n ≡ 0 → Unrefused m c r t l n
+unfolding refusalBy
+unrefused m c r t l n e =
+    let w = givenKind (sortOf m) in
+    let a = unless-passed (not (needsRunner (sortOf m)) || someone r) 7 _ e in
+    let b = unless-passed (not (is m AC && eqb (c .head .kind) 0) || not (t .alive)) 8 _ (a .1) in
+    let d = unless-passed (not (is m TE || is m SU || is m CO) || t .alive) 9 _ (b .1) in
+    let f = unless-passed (not (is m SU) || not (suspended (t .hold))) 10 _ (d .1) in
+    let g = unless-passed (not (is m CO) || not (unheld (t .hold))) 11 _ (f .1) in
+    let h = unreturnable-passed w (not (waiting w) || every (taken w l) (named c)) _ (g .1) in
+    let i = unless-passed (not (is m TI) || ltb (n .0) lastInstant) 14 0 (h .1) in
+    record { runs = a .0; ended = b .0; lives = d .0; unsuspended = f .0; held = g .0; returnable = h .0; goes = i .0 }
+
+-- 2 to 15, or 0.
+unfoldable pub refusalOf : ℕ → State → Call → ℕ
+refusalOf day k c = before (formalRefusal day (k .counts) (k .begun) c) (stateRefusal (c .head .mark) k c)
+
+-- A call with the mark m that no refusal from 2 on stops.
+pub record Passed (day : ℕ) (m : Mark) (k : State) (c : Call) : Type 0 where
+  pub formal : Formal day m (k .counts) (k .begun) c
+  pub state : stateRefusal m k c ≡ 0
+
+pub passed : (day : ℕ) (k : State) (c : Call) → refusalOf day k c ≡ 0 → Passed day (c .head .mark) k c
 unfolding refusalOf
 passed day k c e =
-    let a = before-passed (formalRefusal day (k .counts) (k .begun) c) (stateRefusal k c) e in
-    (formal day (k .counts) (k .begun) c (a .0), a .1)
+    let a = before-passed (formalRefusal day (k .counts) (k .begun) c) (stateRefusal (c .head .mark) k c) e in
+    record { formal = formal day (k .counts) (k .begun) c (a .0); state = a .1 }
+
+pub formal-as : {day : ℕ} {n : Counts} {begun : Bool} {c : Call} {m : Mark} → c .head .mark ≡ m → Formal day (c .head .mark) n begun c → Formal day m n begun c
+formal-as {day} {n} {begun} {c} e p = subst (λ (m : Mark). Formal day m n begun c) e p
+
+pub as-mark : {day : ℕ} {k : State} {c : Call} {m : Mark} → c .head .mark ≡ m → Passed day (c .head .mark) k c → Passed day m k c
+as-mark {day} {k} {c} e p = subst (λ (m : Mark). Passed day m k c) e p
 
 -- There is room for what is declared.
 module _ (n : Counts) where

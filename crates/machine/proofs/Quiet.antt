@@ -31,9 +31,10 @@ use Rattle.machine.specs.Granting.{servable}
 use Rattle.machine.specs.Work.{turns, everyTurn}
 use Rattle.machine.specs.Serving.{serve}
 use Rattle.machine.specs.Test.{nobodyServable, valid}
-use Rattle.machine.specs.Refusals.{declares, declaredIn, roomFor, formalRefusal, stateRefusalOf, refusalOf}
-use Rattle.machine.specs.Calls.{tick}
-use Rattle.machine.specs.Step.{plainAnswer, finish, orRefuse, carryOut, carryOn, step}
+use Rattle.machine.specs.Sorts.{declares}
+use Rattle.machine.specs.Refusals.{declaredBy, roomFor, formalRefusal, admittedIf, refusalBy, stateRefusal}
+use Rattle.machine.specs.Calls.{tick, workBy}
+use Rattle.machine.specs.Step.{plainAnswer, finish, orRefuse, carryOut, settle, step}
 use Rattle.machine.specs.Log.{final, log}
 use Rattle.machine.specs.Scripts.{row, oneTick}
 use Rattle.machine.specs.Quiet.{comes, Quiet, later, TicksAreQuiet}
@@ -80,7 +81,7 @@ module _ (day : ℕ) (k : State) where
 
 -- Its record is well-formed for every kernel.
 tick-formed : (day : ℕ) (n : Counts) (b : Bool) → formalRefusal day n b (callOf TI oneTick) ≡ 0
-unfolding formalRefusal declares declaredIn roomFor shape times timed formed listed ranged cleanStart cleanNames uses allZero headOf listOf bytesOf
+unfolding formalRefusal declares declaredBy roomFor shape times timed formed listed ranged cleanStart cleanNames uses allZero headOf listOf bytesOf
 tick-formed day n true = refl
 tick-formed day n false = refl
 
@@ -117,15 +118,15 @@ module _ (day : ℕ) (k : State) (room : length (k .tasks) ≡ mostTasks) (v : v
       )
 
   -- A tick, quiet or not.
-  pub tick-step : (c : Call) → step day k oneTick ≡ orRefuse k (stateRefusalOf TI k c) (finish k (tick k))
-  unfolding step carryOn carryOut refusalOf stateRefusalOf opened among headOf bytesOf
+  pub tick-step : (c : Call) → step day k oneTick ≡ orRefuse k (stateRefusal TI k c) (finish k (tick k))
+  unfolding step settle carryOut declares workBy admittedIf refusalBy opened among headOf bytesOf
   tick-step c = rw (v, tick-formed day (k .counts) (k .begun))
 
   pub quiet-step : Quiet 1 k → k .now .0 < lastInstant
       → step day k oneTick
       ≡ record { state = begunAt (plus (k .now) (duration 1)) k; answer = plainAnswer 0 (runner k) }
-  unfolding step carryOn carryOut refusalOf stateRefusalOf opened among headOf bytesOf
-  quiet-step q l = rw (v, lt-ltb (k .now .0) lastInstant l, tick-formed day (k .counts) (k .begun)) (tick-moves q)
+  unfolding refusalBy
+  quiet-step q l = tick-step (callOf TI oneTick) ∙ rw (lt-ltb (k .now .0) lastInstant l) (tick-moves q)
 
 -- ---- d ticks
 

@@ -3,13 +3,11 @@ use mathlib.Core.Path.{_≡_, refl}
 use mathlib.Core.Logic.{_≢_}
 use Prim.Native.Nat.{ℕ}
 use native.Mathlib.Omega.{arith}
-use Rattle.layout.specs.declared.Mark.{Mark}
-use Rattle.layout.specs.declared.Call.{Call}
 use Rattle.machine.specs.declared.State.{State}
 use Rattle.machine.specs.declared.Running.{Running}
-use Rattle.machine.specs.Step.{refuse, finish, declared, carryOut, step}
+use Rattle.machine.specs.Step.{refuse, step}
 use Rattle.machine.specs.Promises.{Untouched, RefusedIsUntouched, UntestedIsRefused, Numbered, RefusalsAreNumbered}
-use Rattle.machine.proofs.Cases.{out-cases, step-cases}
+use Rattle.machine.proofs.Cases.{done-number, step-cases}
 
 refuse-untouched : (k : State) (n : ℕ) (r : Running) → Untouched k (refuse k n r)
 unfolding refuse
@@ -19,15 +17,10 @@ refuse-number : (k : State) (n : ℕ) (r : Running) → refuse k n r .answer .nu
 unfolding refuse
 refuse-number k n r = refl
 
--- What is done has number 0.
-done-number : (day : ℕ) (k : State) (m : Mark) (c : Call) → carryOut day m k c .answer .number ≡ 0
-unfolding finish declared
-done-number day k = out-cases day k (λ t. t .answer .number ≡ 0) (λ d. refl) (λ w. refl)
-
 pub refused-untouched : RefusedIsUntouched
 refused-untouched day k s =
     step-cases day k (λ t. t .answer .number ≢ 0 → Untouched k t) (λ v h. refuse-untouched k 1 _) (λ v n p q h. refuse-untouched k n _)
-    (λ v c e h. absurd (h (done-number day k (c .head .mark) c))) s
+    (λ v c e h. absurd (h (done-number day k c))) s
 
 pub untested-refused : UntestedIsRefused
 unfolding step refuse

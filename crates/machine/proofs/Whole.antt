@@ -1,19 +1,20 @@
 -- The work of a call that asks for a list.
 use mathlib.Core.Path.{_≡_, refl}
-use mathlib.Core.Bool.{true}
+use mathlib.Core.Bool.{true, false}
 use mathlib.Core.List.{List}
 use Prim.Native.Nat.{ℕ}
 use Rattle.record.specs.Refusals.{named}
-use Rattle.lock.specs.Locks.{grantable}
+use Rattle.lock.specs.Locks.{grantable, takeAll}
 use Rattle.lock.specs.declared.Wait.{Wait}
 use Rattle.lock.specs.declared.Locks.{Locks}
 use Rattle.lock.proofs.Bools.{byBool, contra}
 use Rattle.task.specs.declared.Task.{Task}
 use Rattle.machine.specs.State.{taskAt}
 use Rattle.machine.specs.Granting.{couldBeGranted}
-use Rattle.machine.specs.Work.{onlyLocks, oneTurn}
-use Rattle.machine.specs.Calls.{askAs}
+use Rattle.machine.specs.Work.{changed}
+use Rattle.machine.specs.Calls.{asks, changeOf, workBy}
 use Rattle.machine.specs.Whole.{AsksWhole}
+use Rattle.machine.proofs.Works.{onlyLocks, locks-alone}
 
 -- What could be granted has each number free.
 pub could-free : (n : ℕ) (ts : List Task) (r : Locks) (q : ℕ) (w : Wait) (l : List ℕ) → couldBeGranted n ts r q w l ≡ true → grantable w r l ≡ true
@@ -21,11 +22,16 @@ unfolding couldBeGranted
 could-free n ts r q w l e = e
 
 pub asks-whole : AsksWhole
-unfolding askAs onlyLocks oneTurn
-asks-whole k i waits w c r =
-    let b = couldBeGranted (k .counts .tasks) (k .tasks) (k .locks) (taskAt (k .tasks) i .current) w (named c) in
-    rw r
-    (byBool b (λ e. rw e (record { free = could-free _ _ _ _ w (named c) e; locks = refl; granted = refl; tasks = refl }))
+unfolding workBy changeOf asks
+asks-whole day k i w waits c r s =
+    let t = taskAt (k .tasks) i in
+    let b = couldBeGranted (k .counts .tasks) (k .tasks) (k .locks) (t .current) w (named c) in
+    rw (s, r)
+    (byBool b
+    (λ e. rw (e, locks-alone k i (takeAll w (k .locks) (named c)) true)
+    (unfold onlyLocks in record { free = could-free _ _ _ _ w (named c) e; locks = refl; granted = refl; tasks = refl }))
     (λ e. rw e
-    (byBool waits (λ v. rw v (record { locks = refl; granted = refl; waiting = λ z. refl; tried = λ z. contra refl z }))
-    (λ v. rw v (record { locks = refl; granted = refl; waiting = λ z. contra z refl; tried = λ z. refl })))))
+    (byBool waits
+    (λ v. rw v (unfold changed in record { locks = refl; granted = refl; waiting = λ z. refl; tried = λ z. contra refl z }))
+    (λ v. rw (v, locks-alone k i (k .locks) false)
+    (unfold onlyLocks in record { locks = refl; granted = refl; waiting = λ z. contra z refl; tried = λ z. refl })))))

@@ -1,41 +1,50 @@
 -- The works of a call on two kernels that agree are alike in what is declared.
 use mathlib.Core.Path.{_≡_, refl, sym, ap, _∙_}
-use mathlib.Core.Bool.{Bool, true, false, cond}
+use mathlib.Core.Bool.{Bool, true, false, not, _||_}
 use mathlib.Core.List.{List, [], _++_, map}
-use Prim.Native.Nat.{ℕ, _<_, _^_}
+use Prim.Native.Nat.{ℕ, _<_}
 use native.Mathlib.Omega.{arith}
 use lib.ListN.{length, take, drop, length-map, List·getD-append}
 use lib.Seq.{length-take-le, getD-take}
-use lib.Dec.{eqb}
+use lib.Dec.{ltb, eqb}
+use borrow.Author.Tests.{ltb-true}
 use Rattle.calendar.specs.declared.Instant.{Instant}
 use Rattle.record.specs.Refusals.{named}
 use Rattle.layout.specs.declared.Head.{Head}
 use Rattle.layout.specs.declared.Call.{Call}
+use Rattle.layout.specs.Marks.{is as bears}
+use Rattle.layout.specs.declared.Mark.{Mark}
+use Rattle.layout.specs.declared.Mark.the-variants.{AC, TE, SU, PR, RE, TG, EI}
+use Rattle.lock.specs.Locks.{giveAll}
 use Rattle.lock.specs.declared.Wait.{Wait}
 use Rattle.lock.specs.declared.Locks.{Locks}
-use Rattle.lock.proofs.Bools.{byBool}
+use Rattle.lock.proofs.Bools.{byBool, contra, both}
 use Rattle.lock.proofs.Tables.{Like, like-set, like-take, like-front}
 use Rattle.lock.proofs.Alike.{Alike, Seen, seen, take-alike, give-alike}
 use Rattle.task.specs.State.{noTask, waitFor}
 use Rattle.task.specs.Turns.{unmarked}
 use Rattle.task.specs.declared.Task.{Task}
 use Rattle.task.specs.declared.Turn.{Turn}
-use Rattle.task.proofs.Waits.{NoNewWait, no-wait-due, no-wait-schedule, no-wait-tick, no-wait-trigger}
+use Rattle.task.proofs.Waits.{NoNewWait, no-wait-due, no-wait-end, no-wait-suspend, no-wait-prevent, no-wait-continue, no-wait-resume, no-wait-schedule, no-wait-tick, no-wait-trigger}
 use Rattle.machine.specs.declared.Counts.{Counts}
 use Rattle.machine.specs.declared.State.{State}
 use Rattle.machine.specs.declared.Running.{Running}
+use Rattle.machine.specs.declared.Sort.{Sort}
+use Rattle.machine.specs.declared.Sort.the-variants.{Declaration, OneTask, TheRunner, ListAsked, ListGiven, AnInterrupt, EveryTask}
 use Rattle.machine.specs.declared.Running.the-variants.{Idle, Runs}
 use Rattle.machine.specs.State.{mostTasks, mostSemaphores, mostBolts, mostInterrupts, taskAt, enabledAt, withState}
-use Rattle.machine.specs.Running.{runner}
+use Rattle.machine.specs.Running.{runner, someone}
 use Rattle.machine.specs.Granting.{couldBeGranted}
-use Rattle.machine.specs.Work.{Work, onlyLocks, noWork, oneTurn, turnOf, turnOfRunner, turns, everyTurn}
-use Rattle.machine.specs.Refusals.{listDeclared}
-use Rattle.machine.specs.Calls.{activateTurn, askAs, ask, giveBack, enable, trigger, tick}
+use Rattle.machine.specs.Sets.{only}
+use Rattle.machine.specs.Sorts.{needsRunner, runnerAt}
+use Rattle.machine.specs.Work.{Work, byLocks, changed, onlyEnabled, turns, everyTurn}
+use Rattle.machine.specs.Refusals.{listDeclared, declaredBy}
+use Rattle.machine.specs.Calls.{activateTurn, namedTurn, runnerTurn, asks, changeOf, trigger, interruptBy, tick, workBy}
 use Rattle.machine.proofs.Urgency.{Below, runner-below}
 use Rattle.machine.proofs.Passed.{Listed, Fits}
 use Rattle.machine.proofs.Looks.{could-same, runner-same}
 use Rattle.machine.proofs.Pairs.{Pair, listed-on, pair-set}
-use Rattle.machine.proofs.Works.{map-at}
+use Rattle.machine.proofs.Works.{oneTurn, onlyLocks, locks-alone, enabled-alone, map-at}
 
 pub record WorkPair (n : Counts) (w w′ : Work) : Type 0 where
   pub now : w .now ≡ w′ .now
@@ -47,10 +56,22 @@ pub record WorkPair (n : Counts) (w w′ : Work) : Type 0 where
   pub lost : w .lost ≡ w′ .lost
   pub granted : w .granted ≡ w′ .granted
 
-pub no-wait-activate : (day clock : ℕ) (n : Instant) (h : Head) (t : Task) → NoNewWait t (activateTurn day clock n h t .task)
+no-wait-activate : (day clock : ℕ) (n : Instant) (h : Head) (t : Task) → NoNewWait t (activateTurn day clock n h t .task)
 unfolding activateTurn
 no-wait-activate day clock n h t =
     byBool (eqb (h .kind) 0) (λ e. rw e (no-wait-due t _)) (λ e. rw e (no-wait-schedule t n _))
+
+no-wait-named : (day clock : ℕ) (n : Instant) (m : Mark) (h : Head) (t : Task) → NoNewWait t (namedTurn day clock n m h t .task)
+unfolding namedTurn
+no-wait-named day clock n m h t =
+    byBool (bears m AC) (λ e. rw e (no-wait-activate day clock n h t))
+    (λ e. rw e (byBool (bears m TE) (λ e. rw e (no-wait-end t))
+    (λ e. rw e (byBool (bears m SU) (λ e. rw e (no-wait-suspend t))
+    (λ e. rw e (byBool (bears m PR) (λ e. rw e (no-wait-prevent t)) (λ e. rw e (no-wait-continue t (h .priority)))))))))
+
+no-wait-runner : (n : Instant) (m : Mark) (h : Head) (t : Task) → NoNewWait t (runnerTurn n m h t .task)
+unfolding runnerTurn
+no-wait-runner n m h t = byBool (bears m RE) (λ e. rw e (no-wait-resume t _)) (λ e. rw e (no-wait-end t))
 
 module _ (k : State) (ts : List Task) (r : Locks) (is : List Bool) (f : Fits (k .counts)) (h : Pair (k .counts) (k .tasks) ts (k .locks) r)
     (ints : Like false mostInterrupts (k .counts .interrupts) (k .enabled) is) where
@@ -83,22 +104,16 @@ module _ (k : State) (ts : List Task) (r : Locks) (is : List Bool) (f : Fits (k 
         granted = refl;
       }
 
-  none-pair : WorkPair n (noWork k) (noWork k′)
+  none-pair : WorkPair n (onlyLocks k (k .locks) (k .enabled) 0) (onlyLocks k′ r is 0)
   none-pair = only-pair (k .locks) r (k .enabled) is 0 (h .locks) ints
 
-  pub give-pair : (w : Wait) (c : Call) → WorkPair n (giveBack k w c) (giveBack k′ w c)
-  give-pair w c =
-      only-pair _ _ (k .enabled) is 0
-      (give-alike mostSemaphores mostBolts (n .semaphores) (n .bolts) (f .semaphores) (f .bolts) w (named c) (k .locks) r (h .locks)) ints
-
-  pub enable-pair : (i : ℕ) (b : Bool) → WorkPair n (enable k i b) (enable k′ i b)
-  enable-pair i b =
-      only-pair (k .locks) r _ _ 0 (h .locks) (like-set false mostInterrupts (n .interrupts) (k .enabled) is ints (f .interrupts) i b b (λ l. refl))
+  enabled-pair : (js js′ : List Bool) → Like false mostInterrupts (n .interrupts) js js′ → WorkPair n (onlyEnabled k js) (onlyEnabled k′ js′)
+  enabled-pair js js′ b = rw (enabled-alone k js, enabled-alone k′ js′) (only-pair (k .locks) r js js′ 0 (h .locks) b)
 
   -- ---- one turn
 
   one-pair : (i : ℕ) (u u′ : Turn) → u ≡ u′ → Listed n (u .task) → WorkPair n (oneTurn k i u) (oneTurn k′ i u′)
-  unfolding oneTurn
+  unfolding changed
   one-pair i u u′ e l =
       rw (← e)
       (record {
@@ -118,15 +133,8 @@ module _ (k : State) (ts : List Task) (r : Locks) (is : List Bool) (f : Fits (k 
         let t = taskAt (k .tasks) i in
         listed-on n t (turn t .task) (waits t) (h .listed i l)
 
-    pub turn-pair : (i : ℕ) → i < n .tasks → WorkPair n (turnOf k i turn) (turnOf k′ i turn)
+    turn-pair : (i : ℕ) → i < n .tasks → WorkPair n (oneTurn k i (turn (taskAt (k .tasks) i))) (oneTurn k′ i (turn (taskAt ts i)))
     turn-pair i l = one-pair i _ _ (ap turn (h .tasks .below i l)) (still-listed i l)
-
-    pub runner-pair : WorkPair n (turnOfRunner k (runner k) turn) (turnOfRunner k′ (runner k′) turn)
-    runner-pair = rw (← same-runner) (go (runner k) (runner-below k))
-      where
-        go : (x : Running) → Below (n .tasks) x → WorkPair n (turnOfRunner k x turn) (turnOfRunner k′ x turn)
-        go Idle l = none-pair
-        go (Runs i) l = turn-pair i l
 
     -- ---- every turn
 
@@ -166,42 +174,76 @@ module _ (k : State) (ts : List Task) (r : Locks) (is : List Bool) (f : Fits (k 
           granted = refl;
         })
 
-  pub tick-pair : WorkPair n (tick k) (tick k′)
+  -- ---- interrupts and ticks
+
+  tick-pair : WorkPair n (tick k) (tick k′)
   unfolding tick
   tick-pair = every-pair _ (λ t. no-wait-tick t _) _
 
-  pub trigger-pair : (day i : ℕ) → i < n .interrupts → WorkPair n (trigger day k i) (trigger day k′ i)
+  trigger-pair : (day i : ℕ) → i < n .interrupts → WorkPair n (trigger day k i) (trigger day k′ i)
   unfolding trigger
   trigger-pair day i l =
       rw (← ints .below i l)
       (byBool (enabledAt k i)
-      (λ e. rw e (every-pair _ (λ t. no-wait-trigger t day (k .clock) (k .now) i) (k .now))) (λ e. rw e none-pair))
+      (λ e. rw e (every-pair _ (λ t. no-wait-trigger t day (k .clock) (k .now) i) (k .now))) (λ e. rw e (enabled-pair (k .enabled) is ints)))
+
+  interrupt-pair : (day : ℕ) (m : Mark) (i : ℕ) → i < n .interrupts → WorkPair n (interruptBy day m k i) (interruptBy day m k′ i)
+  unfolding interruptBy
+  interrupt-pair day m i l =
+      byBool (bears m TG) (λ e. rw e (trigger-pair day i l))
+      (λ e. rw e (enabled-pair _ _ (like-set false mostInterrupts (n .interrupts) (k .enabled) is ints (f .interrupts) i (bears m EI) (bears m EI) (λ l. refl))))
 
   -- ---- lists
 
-  module _ (waits : Bool) (w : Wait) (c : Call) (e : listDeclared n w c ≡ true) where
+  locks-pair : (i : ℕ) (s s′ : Locks) (b : Bool) → Alike mostSemaphores mostBolts (n .semaphores) (n .bolts) s s′
+      → WorkPair n (changed k i (byLocks (taskAt (k .tasks) i) s b)) (changed k′ i (byLocks (taskAt ts i) s′ b))
+  locks-pair i s s′ b a = rw (locks-alone k i s b, locks-alone k′ i s′ b) (only-pair s s′ (k .enabled) is (only i b) a ints)
+
+  module _ (w : Wait) (waits : Bool) (c : Call) (e : listDeclared n w c ≡ true) where
     abbrev wait : Task → Turn
     wait t = unmarked (waitFor w (c .head .len) (c .list) t)
-
-    wait-pair : (i : ℕ) → i < n .tasks → WorkPair n (cond waits (turnOf k i wait) (noWork k)) (cond waits (turnOf k′ i wait) (noWork k′))
-    wait-pair i l =
-        byBool waits (λ b. rw b (one-pair i (wait (taskAt (k .tasks) i)) (wait (taskAt ts i)) (ap wait (h .tasks .below i l)) (λ z. e)))
-        (λ b. rw b none-pair)
 
     could : (i : ℕ) → i < n .tasks
         → couldBeGranted (n .tasks) (k .tasks) (k .locks) (taskAt (k .tasks) i .current) w (named c)
         ≡ couldBeGranted (n .tasks) ts r (taskAt ts i .current) w (named c)
     could i l = rw (← h .tasks .below i l) (could-same n (k .tasks) ts (h .tasks .below) (k .locks) r sees (taskAt (k .tasks) i .current) w (named c) e)
 
-    pub ask-pair : WorkPair n (ask k waits w c) (ask k′ waits w c)
-    unfolding askAs
-    ask-pair = rw (← same-runner) (go (runner k) (runner-below k))
-      where
-        go : (x : Running) → Below (n .tasks) x → WorkPair n (askAs k x waits w c) (askAs k′ x waits w c)
-        go Idle l = none-pair
-        go (Runs i) l =
-            byBool (couldBeGranted (n .tasks) (k .tasks) (k .locks) (taskAt (k .tasks) i .current) w (named c))
-            (λ b. rw (b, sym (could i l) ∙ b)
-            (only-pair _ _ (k .enabled) is (2 ^ i)
-            (take-alike mostSemaphores mostBolts (n .semaphores) (n .bolts) (f .semaphores) (f .bolts) w (named c) (k .locks) r (h .locks)) ints))
-            (λ b. rw (b, sym (could i l) ∙ b) (wait-pair i l))
+    ask-pair : (i : ℕ) → i < n .tasks
+        → WorkPair n (changed k i (asks (n .tasks) (k .tasks) w waits c (taskAt (k .tasks) i) (k .locks))) (changed k′ i (asks (n .tasks) ts w waits c (taskAt ts i) r))
+    unfolding asks
+    ask-pair i l =
+        byBool (couldBeGranted (n .tasks) (k .tasks) (k .locks) (taskAt (k .tasks) i .current) w (named c))
+        (λ b. rw (b, sym (could i l) ∙ b)
+        (locks-pair i _ _ true (take-alike mostSemaphores mostBolts (n .semaphores) (n .bolts) (f .semaphores) (f .bolts) w (named c) (k .locks) r (h .locks))))
+        (λ b. rw (b, sym (could i l) ∙ b)
+        (byBool waits (λ q. rw q (one-pair i (wait (taskAt (k .tasks) i)) (wait (taskAt ts i)) (ap wait (h .tasks .below i l)) (λ z. e)))
+        (λ q. rw q (locks-pair i (k .locks) r false (h .locks)))))
+
+  -- ---- all sorts
+
+  -- The running task, which has to be there.
+  runner-pair : (g : State → ℕ → Work) → ((i : ℕ) → i < n .tasks → WorkPair n (g k i) (g k′ i)) → someone (runner k) ≡ true
+      → WorkPair n (g k (runnerAt (runner k))) (g k′ (runnerAt (runner k′)))
+  runner-pair g q = rw (← same-runner) (go (runner k) (runner-below k))
+    where
+      go : (x : Running) → Below (n .tasks) x → someone x ≡ true → WorkPair n (g k (runnerAt x)) (g k′ (runnerAt x))
+      go Idle l e = contra e refl
+      go (Runs i) l e = q i l
+
+  pub work-pair : (day : ℕ) (c : Call) (s : Sort) → declaredBy s n c ≡ true → (not (needsRunner s) || someone (runner k)) ≡ true
+      → WorkPair n (workBy day s k c) (workBy day s k′ c)
+  unfolding declaredBy workBy changeOf
+  work-pair day c Declaration e a = enabled-pair (k .enabled) is ints
+  work-pair day c OneTask e a =
+      turn-pair (namedTurn day (k .clock) (k .now) (c .head .mark) (c .head)) (no-wait-named day (k .clock) (k .now) (c .head .mark) (c .head)) (c .head .number)
+      (ltb-true _ _ (both (ltb (c .head .number) (n .tasks)) _ e .0))
+  work-pair day c TheRunner e a =
+      runner-pair (λ z i. oneTurn z i (runnerTurn (k .now) (c .head .mark) (c .head) (taskAt (z .tasks) i)))
+      (turn-pair (runnerTurn (k .now) (c .head .mark) (c .head)) (no-wait-runner (k .now) (c .head .mark) (c .head))) a
+  work-pair day c (ListAsked w b) e a =
+      runner-pair (λ z i. changed z i (asks (n .tasks) (z .tasks) w b c (taskAt (z .tasks) i) (z .locks))) (ask-pair w b c e) a
+  work-pair day c (ListGiven w) e a =
+      runner-pair (λ z i. changed z i (byLocks (taskAt (z .tasks) i) (giveAll w (z .locks) (named c)) false))
+      (λ i l. locks-pair i _ _ false (give-alike mostSemaphores mostBolts (n .semaphores) (n .bolts) (f .semaphores) (f .bolts) w (named c) (k .locks) r (h .locks))) a
+  work-pair day c AnInterrupt e a = interrupt-pair day (c .head .mark) (c .head .number) (ltb-true _ (n .interrupts) e)
+  work-pair day c EveryTask e a = tick-pair

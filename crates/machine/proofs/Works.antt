@@ -1,4 +1,4 @@
--- What a turn of every task leaves at each place.
+-- The works of one task's turn and of the locks alone, and what a turn of every task leaves at each place.
 use mathlib.Core.Path.{_≡_, refl, ap, _∙_}
 use mathlib.Core.Bool.{Bool, false}
 use mathlib.Core.List.{List, [], _∷_, _++_, map}
@@ -6,17 +6,49 @@ use Prim.Native.Nat.{ℕ, zero, suc, _^_, _≤_, _<_}
 use native.Mathlib.Nat.{not-suc-le-zero}
 use native.Mathlib.Omega.{arith}
 use lib.ListN.{length, getD, take, drop, length-drop, length-append, length-map, List·getD-map, List·getD-append}
-use lib.Seq.{getD-take, length-take-le}
+use lib.Seq.{getD-take, length-take-le, set-getD}
 use Rattle.calendar.specs.declared.Instant.{Instant}
 use Rattle.lock.specs.Locks.{bit}
+use Rattle.lock.specs.declared.Locks.{Locks}
 use Rattle.task.specs.State.{noTask}
 use Rattle.task.specs.declared.Task.{Task}
 use Rattle.task.specs.declared.Turn.{Turn}
 use Rattle.machine.specs.declared.State.{State}
-use Rattle.machine.specs.Sets.{has, setOf}
+use Rattle.machine.specs.Sets.{has, only, setOf}
 use Rattle.machine.specs.State.{taskAt}
-use Rattle.machine.specs.Work.{turns, everyTurn}
+use Rattle.machine.specs.Work.{Work, byTurn, byLocks, changed, onlyEnabled, turns, everyTurn}
 use Rattle.machine.proofs.Sets.{has-setOf, setOf-lt}
+
+-- ---- one task, or none
+
+-- Task i has its turn.
+abbrev pub oneTurn : State → ℕ → Turn → Work
+oneTurn k i u = changed k i (byTurn (k .locks) u)
+
+-- No task has a turn; locks and interrupts may change, and some tasks may be granted.
+unfoldable pub onlyLocks : State → Locks → List Bool → ℕ → Work
+onlyLocks k r is g =
+    record {
+      now = k .now;
+      tasks = k .tasks;
+      locks = r;
+      enabled = is;
+      due = 0;
+      started = 0;
+      ended = 0;
+      lost = 0;
+      granted = g;
+    }
+
+pub locks-alone : (k : State) (i : ℕ) (l : Locks) (b : Bool) → changed k i (byLocks (taskAt (k .tasks) i) l b) ≡ onlyLocks k l (k .enabled) (only i b)
+unfolding changed onlyLocks
+locks-alone k i l b = rw (set-getD (k .tasks) i noTask)
+
+pub enabled-alone : (k : State) (es : List Bool) → onlyEnabled k es ≡ onlyLocks k (k .locks) es 0
+unfolding onlyEnabled onlyLocks
+enabled-alone k es = refl
+
+-- ---- every task
 
 pub map-at : {A B : Type 0} (f : A → B) (l : List A) (i : ℕ) (d : A) (e : B) → i < length l → getD (map f l) i e ≡ f (getD l i d)
 map-at f [] i d e h = absurd (not-suc-le-zero h)

@@ -1,6 +1,7 @@
 -- What accepted declarations and calls do (document 01, "Records" and "The step").
-use mathlib.Core.Bool.{Bool, false, cond}
-use Prim.Native.Nat.{ℕ, zero, suc, _+_, _^_}
+use mathlib.Core.Bool.{Bool, true, false, cond}
+use mathlib.Core.List.{List}
+use Prim.Native.Nat.{ℕ, zero, suc, _+_}
 use lib.ListN.{set}
 use lib.Dec.{eqb}
 use Rattle.calendar.specs.Limits.{tick as oneTick}
@@ -13,23 +14,29 @@ use Rattle.calendar.specs.declared.End.the-variants.{Open, Until, During}
 use Rattle.calendar.specs.declared.Moment.the-variants.{Never}
 use Rattle.record.specs.Refusals.{atTime, afterDuration, onInterrupt, named}
 use Rattle.layout.specs.declared.Head.{Head}
+use Rattle.layout.specs.Marks.{is}
 use Rattle.layout.specs.declared.Call.{Call}
+use Rattle.layout.specs.declared.Mark.{Mark}
+use Rattle.layout.specs.declared.Mark.the-variants.{DT, DS, DB, IT, DC, AC, TE, SU, PR, RE, TG, EI}
 use Rattle.lock.specs.Locks.{emptyBolt, withValue, withBolt, takeAll, giveAll}
+use Rattle.lock.specs.declared.Locks.{Locks}
 use Rattle.lock.specs.declared.Wait.{Wait}
 use Rattle.task.specs.State.{waitFor}
 use Rattle.task.specs.Schedules.{launch}
-use Rattle.task.specs.Turns.{unmarked, dueTurn, tickTurn, scheduleTurn, triggerTurn, orElse}
+use Rattle.task.specs.Turns.{dueTurn, endTurn, preventTurn, suspendTurn, continueTurn, resumeTurn, tickTurn, scheduleTurn, triggerTurn, orElse}
 use Rattle.task.specs.declared.Plan.the-variants.{Clock, Armed}
 use Rattle.task.specs.declared.Schedule.{Schedule}
 use Rattle.task.specs.declared.Task.{Task}
 use Rattle.task.specs.declared.Turn.{Turn}
 use Rattle.machine.specs.declared.State.{State}
-use Rattle.machine.specs.declared.Running.{Running}
-use Rattle.machine.specs.declared.Running.the-variants.{Idle, Runs}
-use Rattle.machine.specs.State.{taskAt, enabledAt, freshTask, withState, withCounts}
+use Rattle.machine.specs.declared.Change.{Change}
+use Rattle.machine.specs.declared.Sort.{Sort}
+use Rattle.machine.specs.declared.Sort.the-variants.{Declaration, OneTask, TheRunner, ListAsked, ListGiven, AnInterrupt, EveryTask}
+use Rattle.machine.specs.State.{taskAt, enabledAt, freshTask, withState, withCounts, withClock}
+use Rattle.machine.specs.Sorts.{sortOf, placeOf}
 use Rattle.machine.specs.Running.{runner}
 use Rattle.machine.specs.Granting.{couldBeGranted}
-use Rattle.machine.specs.Work.{Work, onlyLocks, noWork, turnOf, everyTurn}
+use Rattle.machine.specs.Work.{Work, byTurn, byLocks, changed, onlyEnabled, everyTurn}
 
 -- ---- declarations: the next place of the kind is filled whole
 
@@ -60,6 +67,15 @@ addInterrupt k =
     withCounts
     (record { tasks = n .tasks; semaphores = n .semaphores; bolts = n .bolts; interrupts = n .interrupts + 1 })
     (withState (k .tasks) (k .locks) (set (k .enabled) (n .interrupts) false) k)
+
+-- What a declaration leaves; of the times of day at instant 0 the last given holds.
+unfoldable pub declaration : Mark → Call → State → State
+declaration m c k =
+    cond (is m DT) (addTask (c .head .priority) k)
+    (cond (is m DS) (addSemaphore (c .head .first) k)
+    (cond (is m DB) (addBolt k)
+    (cond (is m IT) (addInterrupt k)
+    (cond (is m DC) (withClock (c .head .first) k) k))))
 
 -- ---- ACTIVATE
 
@@ -96,32 +112,73 @@ module _ (day clock : ℕ) (n : Instant) where
       let p = orElse (h .priority) (t .declared) in
       cond (eqb (h .kind) 0) (dueTurn p t) (scheduleTurn n (scheduleOf h p) t)
 
--- ---- semaphores and bolts
+-- ---- one task and the locks
 
--- The runner asks for a list: it is granted whole, or the runner waits; a TRY doesn't wait.
-unfoldable pub askAs : State → Running → Bool → Wait → Call → Work
-askAs k Idle waits w c = noWork k
-askAs k (Runs i) waits w c =
-    cond (couldBeGranted (k .counts .tasks) (k .tasks) (k .locks) (taskAt (k .tasks) i .current) w (named c))
-    (onlyLocks k (takeAll w (k .locks) (named c)) (k .enabled) (2 ^ i))
-    (cond waits (turnOf k i (λ t. unmarked (waitFor w (c .head .len) (c .list) t))) (noWork k))
+module _ (day clock : ℕ) (n : Instant) where
+  -- AC, TE, SU, PR and CO: the turn of the task that they name.
+  unfoldable pub namedTurn : Mark → Head → Task → Turn
+  namedTurn m h t =
+      cond (is m AC) (activateTurn day clock n h t)
+      (cond (is m TE) (endTurn t)
+      (cond (is m SU) (suspendTurn t) (cond (is m PR) (preventTurn t) (continueTurn (h .priority) t))))
 
-abbrev pub ask : State → Bool → Wait → Call → Work
-ask k waits w c = askAs k (runner k) waits w c
+-- EN and RE: the running task's turn at n.
+unfoldable pub runnerTurn : Instant → Mark → Head → Task → Turn
+runnerTurn n m h t = cond (is m RE) (resumeTurn (plus n (duration (h .first))) t) (endTurn t)
 
--- RELEASE, FREE, LEAVE.
-abbrev pub giveBack : State → Wait → Call → Work
-giveBack k w c = onlyLocks k (giveAll w (k .locks) (named c)) (k .enabled) 0
+module _ (count : ℕ) (ts : List Task) where
+  -- The running task t asks for a list: it is granted whole, or the task waits; a TRY doesn't wait.
+  unfoldable pub asks : Wait → Bool → Call → Task → Locks → Change
+  asks w waits c t l =
+      cond (couldBeGranted count ts l (t .current) w (named c)) (byLocks t (takeAll w l (named c)) true)
+      (cond waits (byLocks (waitFor w (c .head .len) (c .list) t) l false) (byLocks t l false))
 
-abbrev pub enable : State → ℕ → Bool → Work
-enable k i b = onlyLocks k (k .locks) (set (k .enabled) i b) 0
+  -- What a call does to the task that it is about and to the locks. The other sorts aren't about one task.
+  unfoldable pub changeOf : ℕ → Sort → Call → ℕ → Instant → Task → Locks → Change
+  changeOf day Declaration c clock n t l = byLocks t l false
+  changeOf day OneTask c clock n t l = byTurn l (namedTurn day clock n (c .head .mark) (c .head) t)
+  changeOf day TheRunner c clock n t l = byTurn l (runnerTurn n (c .head .mark) (c .head) t)
+  changeOf day (ListAsked w waits) c clock n t l = asks w waits c t l
+  changeOf day (ListGiven w) c clock n t l = byLocks t (giveAll w l (named c)) false
+  changeOf day AnInterrupt c clock n t l = byLocks t l false
+  changeOf day EveryTask c clock n t l = byLocks t l false
 
--- ---- every task
+abbrev pub changeIn : ℕ → Sort → State → Call → Work
+changeIn day s k c =
+    let i = placeOf s (c .head) (runner k) in
+    changed k i (changeOf (k .counts .tasks) (k .tasks) day s c (k .clock) (k .now) (taskAt (k .tasks) i) (k .locks))
+
+-- ---- interrupts
 
 -- TRIGGER of interrupt i. A disabled one changes nothing.
 unfoldable pub trigger : ℕ → State → ℕ → Work
-trigger day k i = cond (enabledAt k i) (everyTurn k (k .now) (triggerTurn day (k .clock) (k .now) i)) (noWork k)
+trigger day k i =
+    cond (enabledAt k i) (everyTurn k (k .now) (triggerTurn day (k .clock) (k .now) i)) (onlyEnabled k (k .enabled))
 
--- One tick.
+-- ENABLE and DISABLE.
+abbrev pub enable : State → ℕ → Bool → Work
+enable k i b = onlyEnabled k (set (k .enabled) i b)
+
+-- TG, EI, XI.
+unfoldable pub interruptBy : ℕ → Mark → State → ℕ → Work
+interruptBy day m k i = cond (is m TG) (trigger day k i) (enable k i (is m EI))
+
+-- ---- one tick
+
 unfoldable pub tick : State → Work
 tick k = everyTurn k (plus (k .now) (duration oneTick)) (tickTurn (plus (k .now) (duration oneTick)))
+
+-- ---- all sorts
+
+-- What an accepted call does. A declaration is none.
+unfoldable pub workBy : ℕ → Sort → State → Call → Work
+workBy day Declaration k c = onlyEnabled k (k .enabled)
+workBy day OneTask k c = changeIn day OneTask k c
+workBy day TheRunner k c = changeIn day TheRunner k c
+workBy day (ListAsked w b) k c = changeIn day (ListAsked w b) k c
+workBy day (ListGiven w) k c = changeIn day (ListGiven w) k c
+workBy day AnInterrupt k c = interruptBy day (c .head .mark) k (c .head .number)
+workBy day EveryTask k c = tick k
+
+abbrev pub workOf : ℕ → State → Call → Work
+workOf day k c = workBy day (sortOf (c .head .mark)) k c

@@ -2,6 +2,7 @@
 pub mod Sums
 pub mod Sets
 pub mod State
+pub mod Sorts
 pub mod Running
 pub mod Granting
 pub mod Work

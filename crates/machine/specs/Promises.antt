@@ -23,7 +23,8 @@ use Rattle.machine.specs.Running.{urgency, mostUrgent, runner}
 use Rattle.machine.specs.Granting.{servable}
 use Rattle.machine.specs.Serving.{Served, nextServed}
 use Rattle.machine.specs.Test.{valid}
-use Rattle.machine.specs.Refusals.{declares, declaredIn}
+use Rattle.machine.specs.Sorts.{declares}
+use Rattle.machine.specs.Refusals.{declaredIn}
 use Rattle.machine.specs.Step.{refuse, carry, step}
 
 -- ---- the most urgent task. Proved in proofs/Urgency.antt.

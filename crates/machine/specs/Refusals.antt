@@ -1,58 +1,57 @@
--- Refusals 2 to 15 of a call or declaration that was read, first ground first (document 01, "Refusals").
+-- Refusals 2 to 15, first ground first (document 01, "Refusals, in checking order").
 use mathlib.Core.Bool.{Bool, true, not, _&&_, _||_}
+use mathlib.Core.List.{List}
 use Prim.Native.Nat.{ℕ}
 use lib.Dec.{ltb, eqb}
 use Rattle.calendar.specs.Limits.{lastInstant}
+use Rattle.calendar.specs.declared.Instant.{Instant}
 use Rattle.layout.specs.Marks.{is}
 use Rattle.record.specs.Refusals.{onInterrupt, named, unless, before, shape, times}
+use Rattle.record.specs.Reading.{callWith, opened, orRefused, numberOf}
+use Rattle.record.specs.declared.Read.{Read}
+use Rattle.record.specs.declared.Read.the-variants.{Refused, Accepted}
+use Rattle.record.specs.declared.Reading.{Reading}
 use Rattle.layout.specs.declared.Mark.{Mark}
-use Rattle.layout.specs.declared.Mark.the-variants.{DT, DS, DB, IT, DC, AC, TE, SU, PR, CO, EN, RE, RQ, RL, TR, RS, FR, ET, LV, TG, EI, XI, TI}
+use Rattle.layout.specs.declared.Mark.the-variants.{DT, DS, DB, IT, AC, TE, SU, CO, TI}
 use Rattle.layout.specs.declared.Call.{Call}
-use Rattle.lock.specs.Locks.{every, taken}
+use Rattle.layout.specs.declared.Head.{Head}
+use Rattle.lock.specs.Locks.{waiting, every, taken}
 use Rattle.lock.specs.declared.Wait.{Wait}
-use Rattle.lock.specs.declared.Wait.the-variants.{Request, Reserve, Enter}
+use Rattle.lock.specs.declared.Wait.the-variants.{Nothing, Request, Reserve, Enter}
+use Rattle.lock.specs.declared.Locks.{Locks}
 use Rattle.task.specs.State.{unheld, suspended}
+use Rattle.task.specs.declared.Task.{Task}
 use Rattle.machine.specs.declared.Counts.{Counts}
 use Rattle.machine.specs.declared.State.{State}
+use Rattle.machine.specs.declared.Running.{Running}
+use Rattle.machine.specs.declared.Sort.{Sort}
+use Rattle.machine.specs.declared.Sort.the-variants.{Declaration, OneTask, TheRunner, ListAsked, ListGiven, AnInterrupt, EveryTask}
 use Rattle.machine.specs.State.{mostTasks, mostSemaphores, mostBolts, mostInterrupts, taskAt, countOf}
 use Rattle.machine.specs.Running.{runner, someone}
+use Rattle.machine.specs.Sorts.{sortOf, declares, needsRunner, givenKind, placeOf}
 
 -- ---- 2, 5 and 7: what the counts and the first accepted call decide
-
-unfoldable pub declares : Mark → Bool
-declares m = is m DT || is m DS || is m DB || is m IT || is m DC
 
 -- Each number of a call's list names a declared semaphore or bolt.
 abbrev pub listDeclared : Counts → Wait → Call → Bool
 listDeclared n w c = every (λ x. ltb x (countOf n w)) (named c)
 
--- What a call names is declared.
-unfoldable pub declaredIn : Mark → Counts → Call → Bool
-declaredIn DT n c = true
-declaredIn DS n c = true
-declaredIn DB n c = true
-declaredIn IT n c = true
-declaredIn DC n c = true
-declaredIn AC n c =
-    ltb (c .head .number) (n .tasks)
-    && (not (onInterrupt (c .head .kind)) || ltb (c .head .interrupt) (n .interrupts))
-declaredIn TE n c = ltb (c .head .number) (n .tasks)
-declaredIn SU n c = ltb (c .head .number) (n .tasks)
-declaredIn PR n c = ltb (c .head .number) (n .tasks)
-declaredIn CO n c = ltb (c .head .number) (n .tasks)
-declaredIn EN n c = true
-declaredIn RE n c = true
-declaredIn RQ n c = listDeclared n Request c
-declaredIn RL n c = listDeclared n Request c
-declaredIn TR n c = listDeclared n Request c
-declaredIn RS n c = listDeclared n Reserve c
-declaredIn FR n c = listDeclared n Reserve c
-declaredIn ET n c = listDeclared n Enter c
-declaredIn LV n c = listDeclared n Enter c
-declaredIn TG n c = ltb (c .head .number) (n .interrupts)
-declaredIn EI n c = ltb (c .head .number) (n .interrupts)
-declaredIn XI n c = ltb (c .head .number) (n .interrupts)
-declaredIn TI n c = true
+-- The interrupt of a start is declared.
+abbrev pub startDeclared : Counts → Head → Bool
+startDeclared n h = not (onInterrupt (h .kind)) || ltb (h .interrupt) (n .interrupts)
+
+-- What a call of a sort names is declared.
+unfoldable pub declaredBy : Sort → Counts → Call → Bool
+declaredBy Declaration n c = true
+declaredBy OneTask n c = ltb (c .head .number) (n .tasks) && startDeclared n (c .head)
+declaredBy TheRunner n c = true
+declaredBy (ListAsked w b) n c = listDeclared n w c
+declaredBy (ListGiven w) n c = listDeclared n w c
+declaredBy AnInterrupt n c = ltb (c .head .number) (n .interrupts)
+declaredBy EveryTask n c = true
+
+abbrev pub declaredIn : Mark → Counts → Call → Bool
+declaredIn m n c = declaredBy (sortOf m) n c
 
 -- There is room for a declaration.
 unfoldable pub roomFor : Mark → Counts → Bool
@@ -62,7 +61,7 @@ roomFor m n =
     && (not (is m DB) || ltb (n .bolts) mostBolts)
     && (not (is m IT) || ltb (n .interrupts) mostInterrupts)
 
--- 2 to 7, or 0: what the call, the counts and the first accepted call decide.
+-- 2 to 7, or 0: what a call or declaration, the counts and the first accepted call decide.
 unfoldable pub formalRefusal : ℕ → Counts → Bool → Call → ℕ
 formalRefusal day n begun c =
     unless (not (begun && declares (c .head .mark))) 2
@@ -70,50 +69,40 @@ formalRefusal day n begun c =
     (unless (declaredIn (c .head .mark) n c) 5
     (before (times day (c .head)) (unless (roomFor (c .head .mark) n) 7 0))))
 
--- ---- 8 to 15: what the kernel's state decides
+-- A reading that none of them refuses stays as it is.
+unfoldable pub admittedIf : ℕ → Counts → Bool → Read → Reading → Reading
+admittedIf day n begun (Refused m) r = r
+admittedIf day n begun (Accepted h) r = orRefused (formalRefusal day n begun (callWith h (r .list))) r
 
-abbrev pub aliveAt : State → ℕ → Bool
-aliveAt k i = taskAt (k .tasks) i .alive
+-- What bytes, counts and the first accepted call decide: the call or declaration, or the first of 2 to 7.
+abbrev pub admitted : ℕ → Counts → Bool → List ℕ → Reading
+admitted day n begun s = admittedIf day n begun (opened s .answer) (opened s)
 
-abbrev pub needsRunner : State → ℕ → ℕ
-needsRunner k rest = unless (someone (runner k)) 8 rest
+-- 2 to 7, or 0, of bytes of any length.
+abbrev pub byteRefusal : ℕ → Counts → Bool → List ℕ → ℕ
+byteRefusal day n begun s = numberOf (admitted day n begun s .answer)
 
-abbrev pub needsAlive : State → Call → ℕ → ℕ
-needsAlive k c rest = unless (aliveAt k (c .head .number)) 10 rest
+-- ---- 8 to 15: what the state decides
 
--- Each number of a list can be given back.
-abbrev pub needsTaken : State → Wait → Call → ℕ → ℕ
-needsTaken k w c n = unless (every (taken w (k .locks)) (named c)) n 0
+-- A list that can't be given back: RL, or FR and LV.
+abbrev pub unreturnable : Wait → ℕ
+unreturnable Nothing = 14
+unreturnable Request = 13
+unreturnable Reserve = 14
+unreturnable Enter = 14
 
-unfoldable pub stateRefusalOf : Mark → State → Call → ℕ
-stateRefusalOf DT k c = 0
-stateRefusalOf DS k c = 0
-stateRefusalOf DB k c = 0
-stateRefusalOf IT k c = 0
-stateRefusalOf DC k c = 0
-stateRefusalOf AC k c = unless (not (eqb (c .head .kind) 0 && aliveAt k (c .head .number))) 9 0
-stateRefusalOf TE k c = needsAlive k c 0
-stateRefusalOf SU k c = needsAlive k c (unless (not (suspended (taskAt (k .tasks) (c .head .number) .hold))) 11 0)
-stateRefusalOf PR k c = 0
-stateRefusalOf CO k c = needsAlive k c (unless (not (unheld (taskAt (k .tasks) (c .head .number) .hold))) 12 0)
-stateRefusalOf EN k c = needsRunner k 0
-stateRefusalOf RE k c = needsRunner k 0
-stateRefusalOf RQ k c = needsRunner k 0
-stateRefusalOf RL k c = needsRunner k (needsTaken k Request c 13)
-stateRefusalOf TR k c = needsRunner k 0
-stateRefusalOf RS k c = needsRunner k 0
-stateRefusalOf FR k c = needsRunner k (needsTaken k Reserve c 14)
-stateRefusalOf ET k c = needsRunner k 0
-stateRefusalOf LV k c = needsRunner k (needsTaken k Enter c 14)
-stateRefusalOf TG k c = 0
-stateRefusalOf EI k c = 0
-stateRefusalOf XI k c = 0
-stateRefusalOf TI k c = unless (ltb (k .now .0) lastInstant) 15 0
+-- 8 to 15, or 0, with the running task, the task that the call is about, the locks and the present instant.
+unfoldable pub refusalBy : Mark → Call → Running → Task → Locks → Instant → ℕ
+refusalBy m c r t l n =
+    let w = givenKind (sortOf m) in
+    unless (not (needsRunner (sortOf m)) || someone r) 8
+    (unless (not (is m AC && eqb (c .head .kind) 0) || not (t .alive)) 9
+    (unless (not (is m TE || is m SU || is m CO) || t .alive) 10
+    (unless (not (is m SU) || not (suspended (t .hold))) 11
+    (unless (not (is m CO) || not (unheld (t .hold))) 12
+    (unless (not (waiting w) || every (taken w l) (named c)) (unreturnable w)
+    (unless (not (is m TI) || ltb (n .0) lastInstant) 15 0))))))
 
--- 8 to 15, or 0.
-abbrev pub stateRefusal : State → Call → ℕ
-stateRefusal k c = stateRefusalOf (c .head .mark) k c
-
--- 2 to 15, or 0.
-unfoldable pub refusalOf : ℕ → State → Call → ℕ
-refusalOf day k c = before (formalRefusal day (k .counts) (k .begun) c) (stateRefusal k c)
+abbrev pub stateRefusal : Mark → State → Call → ℕ
+stateRefusal m k c =
+    refusalBy m c (runner k) (taskAt (k .tasks) (placeOf (sortOf m) (c .head) (runner k))) (k .locks) (k .now)

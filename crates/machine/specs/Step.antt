@@ -2,27 +2,23 @@
 use mathlib.Core.Bool.{true, false, cond}
 use mathlib.Core.List.{List}
 use Prim.Native.Nat.{ℕ, zero, suc}
-use Rattle.record.specs.Reading.{callWith, opened}
+use Rattle.record.specs.Reading.{callWith}
 use Rattle.record.specs.declared.Read.{Read}
 use Rattle.record.specs.declared.Read.the-variants.{Refused, Accepted}
 use Rattle.layout.specs.declared.Call.{Call}
-use Rattle.layout.specs.declared.Mark.{Mark}
-use Rattle.layout.specs.declared.Mark.the-variants.{DT, DS, DB, IT, DC, AC, TE, SU, PR, CO, EN, RE, RQ, RL, TR, RS, FR, ET, LV, TG, EI, XI, TI}
-use Rattle.calendar.specs.Times.{duration, plus}
-use Rattle.lock.specs.declared.Wait.the-variants.{Request, Reserve, Enter}
-use Rattle.task.specs.Turns.{endTurn, preventTurn, suspendTurn, continueTurn, resumeTurn}
 use Rattle.machine.specs.declared.State.{State}
 use Rattle.machine.specs.declared.Running.{Running}
 use Rattle.machine.specs.declared.Running.the-variants.{Idle}
 use Rattle.machine.specs.declared.Answer.{Answer}
 use Rattle.machine.specs.declared.Stepped.{Stepped}
-use Rattle.machine.specs.State.{withState, withClock, begunAt}
+use Rattle.machine.specs.State.{withState, begunAt}
 use Rattle.machine.specs.Running.{runningOf, runner}
-use Rattle.machine.specs.Work.{Work, turnOf, turnOfRunner}
+use Rattle.machine.specs.Work.{Work}
 use Rattle.machine.specs.Serving.{serve}
 use Rattle.machine.specs.Test.{valid}
-use Rattle.machine.specs.Refusals.{refusalOf}
-use Rattle.machine.specs.Calls.{addTask, addSemaphore, addBolt, addInterrupt, activateTurn, ask, giveBack, enable, trigger, tick}
+use Rattle.machine.specs.Sorts.{declares}
+use Rattle.machine.specs.Refusals.{formalRefusal, admitted, stateRefusal}
+use Rattle.machine.specs.Calls.{declaration, workOf}
 
 -- All sets are empty.
 abbrev pub plainAnswer : ℕ → Running → Answer
@@ -59,35 +55,18 @@ orRefuse k zero s = s
 orRefuse k (suc n) s = refuse k (suc n) (runner k)
 
 module _ (day : ℕ) where
-  -- What each mark does, once accepted.
-  unfoldable pub carryOut : Mark → State → Call → Stepped
-  carryOut DT k c = declared k (addTask (c .head .priority) k)
-  carryOut DS k c = declared k (addSemaphore (c .head .first) k)
-  carryOut DB k c = declared k (addBolt k)
-  carryOut IT k c = declared k (addInterrupt k)
-  carryOut DC k c = declared k (withClock (c .head .first) k)
-  carryOut AC k c = finish k (turnOf k (c .head .number) (activateTurn day (k .clock) (k .now) (c .head)))
-  carryOut TE k c = finish k (turnOf k (c .head .number) endTurn)
-  carryOut SU k c = finish k (turnOf k (c .head .number) suspendTurn)
-  carryOut PR k c = finish k (turnOf k (c .head .number) preventTurn)
-  carryOut CO k c = finish k (turnOf k (c .head .number) (continueTurn (c .head .priority)))
-  carryOut EN k c = finish k (turnOfRunner k (runner k) endTurn)
-  carryOut RE k c = finish k (turnOfRunner k (runner k) (resumeTurn (plus (k .now) (duration (c .head .first)))))
-  carryOut RQ k c = finish k (ask k true Request c)
-  carryOut RL k c = finish k (giveBack k Request c)
-  carryOut TR k c = finish k (ask k false Request c)
-  carryOut RS k c = finish k (ask k true Reserve c)
-  carryOut FR k c = finish k (giveBack k Reserve c)
-  carryOut ET k c = finish k (ask k true Enter c)
-  carryOut LV k c = finish k (giveBack k Enter c)
-  carryOut TG k c = finish k (trigger day k (c .head .number))
-  carryOut EI k c = finish k (enable k (c .head .number) true)
-  carryOut XI k c = finish k (enable k (c .head .number) false)
-  carryOut TI k c = finish k (tick k)
+  -- An accepted declaration or call.
+  unfoldable pub carryOut : State → Call → Stepped
+  carryOut k c =
+      cond (declares (c .head .mark)) (declared k (declaration (c .head .mark) c k)) (finish k (workOf day k c))
+
+  -- What no formal ground refuses: refused by the state, or carried out.
+  unfoldable pub settle : State → Call → Stepped
+  settle k c = let s = carryOut k c in orRefuse k (stateRefusal (c .head .mark) k c) s
 
   -- A call or declaration that was read, on a kernel that passes the test.
   unfoldable pub carryOn : State → Call → Stepped
-  carryOn k c = let s = carryOut (c .head .mark) k c in orRefuse k (refusalOf day k c) s
+  carryOn k c = let s = settle k c in orRefuse k (formalRefusal day (k .counts) (k .begun) c) s
 
   -- Refusal 1: no task runs.
   abbrev pub tested : State → Stepped → Stepped
@@ -99,8 +78,11 @@ module _ (day : ℕ) where
 
   abbrev pub stepRead : State → Read → List ℕ → Stepped
   stepRead k (Refused n) l = refuse k n (runner k)
-  stepRead k (Accepted h) l = carryOn k (callWith h l)
+  stepRead k (Accepted h) l = settle k (callWith h l)
 
   -- The machine over bytes.
   unfoldable pub step : State → List ℕ → Stepped
-  step k s = let t = stepRead k (opened s .answer) (opened s .list) in tested k t
+  step k s =
+      let r = admitted day (k .counts) (k .begun) s in
+      let t = stepRead k (r .answer) (r .list) in
+      tested k t

@@ -11,13 +11,15 @@ use Rattle.lock.specs.declared.Wait.{Wait}
 use Rattle.task.specs.State.{wanted, waitFor, waitOver}
 use Rattle.machine.specs.declared.State.{State}
 use Rattle.machine.specs.declared.Running.the-variants.{Runs}
+use Rattle.machine.specs.declared.Sort.the-variants.{ListAsked}
 use Rattle.machine.specs.Sets.{put}
 use Rattle.machine.specs.State.{mostTasks, taskAt}
+use Rattle.machine.specs.Sorts.{sortOf}
 use Rattle.machine.specs.Running.{runner}
 use Rattle.machine.specs.Granting.{couldBeGranted, servable}
 use Rattle.machine.specs.Work.{Work}
 use Rattle.machine.specs.Serving.{Served, grantTo, serve}
-use Rattle.machine.specs.Calls.{ask}
+use Rattle.machine.specs.Calls.{workOf}
 use Rattle.machine.specs.Promises.{First}
 
 -- ---- RQ, TR, RS and ET
@@ -43,9 +45,10 @@ Asked k i waits w c false a = Untaken k i waits w c a
 -- Asking takes all of the list or nothing.
 abbrev pub AsksWhole : Type 0
 AsksWhole =
-    (k : State) (i : ℕ) (waits : Bool) (w : Wait) (c : Call) → runner k ≡ Runs i
+    (day : ℕ) (k : State) (i : ℕ) (w : Wait) (waits : Bool) (c : Call) → runner k ≡ Runs i
+    → sortOf (c .head .mark) ≡ ListAsked w waits
     → Asked k i waits w c
-    (couldBeGranted (k .counts .tasks) (k .tasks) (k .locks) (taskAt (k .tasks) i .current) w (named c)) (ask k waits w c)
+    (couldBeGranted (k .counts .tasks) (k .tasks) (k .locks) (taskAt (k .tasks) i .current) w (named c)) (workOf day k c)
 
 -- ---- serving
 

@@ -1,5 +1,5 @@
--- What an accepted call does before the waiting tasks are served.
-use mathlib.Core.Bool.{Bool}
+-- What an accepted call does before the waiting tasks are served: to one task and the locks, or to every task.
+use mathlib.Core.Bool.{Bool, false}
 use mathlib.Core.List.{List, _++_, map}
 use Prim.Native.Nat.{ℕ}
 use lib.ListN.{take, drop, set}
@@ -7,11 +7,9 @@ use Rattle.calendar.specs.declared.Instant.{Instant}
 use Rattle.lock.specs.declared.Locks.{Locks}
 use Rattle.task.specs.declared.Task.{Task}
 use Rattle.task.specs.declared.Turn.{Turn}
+use Rattle.machine.specs.declared.Change.{Change}
 use Rattle.machine.specs.declared.State.{State}
-use Rattle.machine.specs.declared.Running.{Running}
-use Rattle.machine.specs.declared.Running.the-variants.{Idle, Runs}
 use Rattle.machine.specs.Sets.{only, setOf}
-use Rattle.machine.specs.State.{taskAt}
 
 pub record Work : Type 0 where
   pub now : Instant
@@ -24,46 +22,67 @@ pub record Work : Type 0 where
   pub lost : ℕ
   pub granted : ℕ
 
--- No task has a turn; locks and interrupts may change, and some tasks may be granted.
-unfoldable pub onlyLocks : State → Locks → List Bool → ℕ → Work
-onlyLocks k r is g =
+-- ---- one task and the locks
+
+-- The task has its turn.
+abbrev pub byTurn : Locks → Turn → Change
+byTurn l u =
+    record {
+      task = u .task;
+      locks = l;
+      due = u .due;
+      started = u .started;
+      ended = u .ended;
+      lost = u .lost;
+      granted = false;
+    }
+
+-- The task has no turn; it may be granted what it asked for.
+abbrev pub byLocks : Task → Locks → Bool → Change
+byLocks t l g =
+    record {
+      task = t;
+      locks = l;
+      due = false;
+      started = false;
+      ended = false;
+      lost = false;
+      granted = g;
+    }
+
+-- Task i is changed.
+unfoldable pub changed : State → ℕ → Change → Work
+changed k i c =
+    record {
+      now = k .now;
+      tasks = set (k .tasks) i (c .task);
+      locks = c .locks;
+      enabled = k .enabled;
+      due = only i (c .due);
+      started = only i (c .started);
+      ended = only i (c .ended);
+      lost = only i (c .lost);
+      granted = only i (c .granted);
+    }
+
+-- ---- no task
+
+-- Interrupts may be enabled or disabled.
+unfoldable pub onlyEnabled : State → List Bool → Work
+onlyEnabled k is =
     record {
       now = k .now;
       tasks = k .tasks;
-      locks = r;
+      locks = k .locks;
       enabled = is;
       due = 0;
       started = 0;
       ended = 0;
       lost = 0;
-      granted = g;
-    }
-
-abbrev pub noWork : State → Work
-noWork k = onlyLocks k (k .locks) (k .enabled) 0
-
--- Task i has its turn.
-unfoldable pub oneTurn : State → ℕ → Turn → Work
-oneTurn k i u =
-    record {
-      now = k .now;
-      tasks = set (k .tasks) i (u .task);
-      locks = k .locks;
-      enabled = k .enabled;
-      due = only i (u .due);
-      started = only i (u .started);
-      ended = only i (u .ended);
-      lost = only i (u .lost);
       granted = 0;
     }
 
--- A turn of the task that a call names, and of the running task.
-abbrev pub turnOf : State → ℕ → (Task → Turn) → Work
-turnOf k i f = oneTurn k i (f (taskAt (k .tasks) i))
-
-abbrev pub turnOfRunner : State → Running → (Task → Turn) → Work
-turnOfRunner k Idle f = noWork k
-turnOfRunner k (Runs i) f = turnOf k i f
+-- ---- every task
 
 abbrev pub turns : ℕ → (Task → Turn) → List Task → List Turn
 turns n f ts = map f (take n ts)

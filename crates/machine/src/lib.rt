@@ -1,7 +1,37 @@
 // The rack kernel's state, and what a step hands back.
 use calendar::Instant;
 use lock::Locks;
+use lock::Wait;
 use task::Task;
+
+// What a mark is about.
+pub enum Sort {
+    // DT, DS, DB, IT, DC
+    Declaration,
+    // The task that the call names: AC, TE, SU, PR, CO.
+    OneTask,
+    // EN, RE
+    TheRunner,
+    // A list that the running task asks for, and whether it waits for it: RQ, TR, RS, ET.
+    ListAsked(Wait, bool),
+    // RL, FR, LV
+    ListGiven(Wait),
+    // TG, EI, XI
+    AnInterrupt,
+    // TI
+    EveryTask,
+}
+
+// What a call does to the task that it is about and to the locks, and which sets have the task.
+pub struct Change {
+    pub task: Task,
+    pub locks: Locks,
+    pub due: bool,
+    pub started: bool,
+    pub ended: bool,
+    pub lost: bool,
+    pub granted: bool,
+}
 
 // How many of each kind are declared.
 pub struct Counts {
