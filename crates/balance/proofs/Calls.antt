@@ -25,7 +25,8 @@ use Rattle.machine.specs.declared.Running.the-variants.{Runs}
 use Rattle.machine.specs.Sets.{has}
 use Rattle.machine.specs.State.{taskAt, countOf}
 use Rattle.machine.specs.Running.{runner}
-use Rattle.machine.specs.Work.{Work, onlyLocks, noWork, oneTurn}
+use Rattle.machine.specs.Work.{Work, changed}
+use Rattle.machine.proofs.Works.{oneTurn, onlyLocks}
 use Rattle.machine.proofs.Sets.{has-empty, has-one, has-other, pow-pos, pow-lt}
 use Rattle.machine.proofs.Facts.{StateOk, proper-list}
 use Rattle.machine.proofs.Done.{Role, asking, giving, Lists, Did, turned, everyone, quiet, gave, got, waits, tried, runs}
@@ -108,7 +109,7 @@ module _ (day : ℕ) (k : State) (h : StateOk day k) (c : Call) (last : Asking) 
         }
 
     -- It tried, and does not wait.
-    tried-books : WorkBooks k c (asking w false) last over (noWork k)
+    tried-books : WorkBooks k c (asking w false) last over (onlyLocks k (k .locks) (k .enabled) 0)
     unfolding onlyLocks
     tried-books =
         record {
@@ -130,11 +131,11 @@ module _ (day : ℕ) (k : State) (h : StateOk day k) (c : Call) (last : Asking) 
         record {
           marked = λ j y. one-marked day k h c i u declared false (λ e. contra e refl) (still-marked (t i) (u .task) refl refl) j;
           ties = λ b j y e. byEq j i (λ m. rw (m, here) over-same) (λ m. over-other j m ∙ rw (there j m) (b j y (rw (there j m) at e)));
-          waits = λ j y. byEq j i (λ m. rw (m, here) (unfold oneTurn in rw (has-empty i, asks-now, z) (simp tests)))
-              (λ m. rw (there j m) (unfold oneTurn in rw (has-empty j, asks-not j m) (simp tests)));
-          asked = unfold oneTurn in λ j y e. none-granted j e;
-          values = unfold oneTurn in unmoved k (named c) over;
-          exclusive = unfold oneTurn in λ e. e;
+          waits = λ j y. byEq j i (λ m. rw (m, here) (unfold changed in rw (has-empty i, asks-now, z) (simp tests)))
+              (λ m. rw (there j m) (unfold changed in rw (has-empty j, asks-not j m) (simp tests)));
+          asked = unfold changed in λ j y e. none-granted j e;
+          values = unfold changed in unmoved k (named c) over;
+          exclusive = unfold changed in λ e. e;
           declared = one-declared day k h c i u declared;
         }
 

@@ -9,7 +9,6 @@ use lib.Seq.{getD-set-same, getD-set-other}
 use Rattle.record.specs.Reading.{callWith, opened}
 use Rattle.record.specs.declared.Read.{Read}
 use Rattle.record.specs.declared.Read.the-variants.{Refused, Accepted}
-use Rattle.layout.specs.declared.Mark.{Mark}
 use Rattle.layout.specs.declared.Mark.the-variants.{DT, DB, IT}
 use Rattle.layout.specs.declared.Call.{Call}
 use Rattle.lock.specs.Locks.{emptyBolt, boltAt}
@@ -18,16 +17,15 @@ use Rattle.lock.proofs.Levels.{bolt-same, bolt-other}
 use Rattle.task.specs.State.{noTask}
 use Rattle.machine.specs.declared.State.{State}
 use Rattle.machine.specs.State.{taskAt, enabledAt, freshTask, nothing, withClock}
-use Rattle.machine.specs.Refusals.{declares, refusalOf}
-use Rattle.machine.specs.Calls.{addTask, addSemaphore, addBolt, addInterrupt}
-use Rattle.machine.specs.Step.{refuse, declared, orRefuse, carryOut, carryOn, stepRead, step}
+use Rattle.machine.specs.Sorts.{declares}
+use Rattle.machine.specs.Calls.{addTask, addSemaphore, addBolt, addInterrupt, declaration as declaredAs}
+use Rattle.machine.specs.Step.{refuse, declared, orRefuse, carryOut, carryOn, step}
 use Rattle.machine.specs.Log.{final, log}
 use Rattle.machine.specs.Invariants.{IsDay}
 use Rattle.machine.proofs.Facts.{StateOk, bounded-of, passes-of-ok}
-use Rattle.machine.proofs.Accepting.{Passed, all-passed}
-use Rattle.machine.proofs.Marks.{carried-number, by-declaration}
-use Rattle.machine.proofs.Declaring.{room-DT, room-DB, room-IT}
-use Rattle.machine.proofs.Invariants.{step-on, step-ok}
+use Rattle.machine.proofs.Passed.{refusalOf, Passed, passed, as-mark, room-task, room-bolt, room-interrupt}
+use Rattle.machine.proofs.Cases.{done-number, declaration-cases, carried-by, stepOpened, step-on}
+use Rattle.machine.proofs.Invariants.{step-ok}
 use Rattle.balance.specs.Counting.{accepted}
 use Rattle.balance.specs.Fresh.{AllOctets, declaration, acceptedCall, without, DeclaredIsFresh}
 
@@ -48,7 +46,7 @@ module _ (day : ℕ) (k : State) (h : StateOk day k) (y : Young k) (c : Call) wh
   unfolding addTask
   young-DT p =
       let n = k .counts .tasks in
-      let room = room-DT day k h c p in
+      let room = room-task (k .counts) (p .formal .room) in
       let at-new = getD-set-same (k .tasks) n (freshTask (c .head .priority)) noTask (omega (arith, h .tables .tasks)) in
       record {
         instant = y .instant;
@@ -67,7 +65,7 @@ module _ (day : ℕ) (k : State) (h : StateOk day k) (y : Young k) (c : Call) wh
   unfolding addBolt
   young-DB p =
       let n = k .counts .bolts in
-      let room = room-DB day k h c p in
+      let room = room-bolt (k .counts) (p .formal .room) in
       record {
         instant = y .instant;
         unbegun = y .unbegun;
@@ -81,7 +79,7 @@ module _ (day : ℕ) (k : State) (h : StateOk day k) (y : Young k) (c : Call) wh
   unfolding addInterrupt
   young-IT p =
       let n = k .counts .interrupts in
-      let room = room-IT day k h c p in
+      let room = room-interrupt (k .counts) (p .formal .room) in
       record {
         instant = y .instant;
         unbegun = y .unbegun;
@@ -94,29 +92,27 @@ module _ (day : ℕ) (k : State) (h : StateOk day k) (y : Young k) (c : Call) wh
   young-DC : Young (withClock (c .head .first) k)
   young-DC = record { instant = y .instant; unbegun = y .unbegun; tasks = y .tasks; bolts = y .bolts; enabled = y .enabled }
 
-  young-declared : (m : Mark) → declares m ≡ true → Passed day m k c → Young (carryOut day m k c .state)
-  unfolding carryOut declared
-  young-declared =
-      by-declaration (λ m. Passed day m k c → Young (carryOut day m k c .state)) young-DT (λ p. young-DS) young-DB young-IT (λ p. young-DC)
+  young-declared : Passed day (c .head .mark) k c → Young (declaredAs (c .head .mark) c k)
+  young-declared p =
+      declaration-cases (c .head .mark) c k Young (λ e. young-DT (as-mark e p)) (λ e. young-DS) (λ e. young-DB (as-mark e p)) (λ e. young-IT (as-mark e p)) (λ e. young-DC) y
 
   young-carried : not (accepted (carryOn day k c .answer) && not (declares (c .head .mark))) ≡ true → Young (carryOn day k c .state)
-  unfolding carryOn
-  young-carried q = go (refusalOf day k c) refl q
+  young-carried q = let by = carried-by day k c in rw by (go (refusalOf day k c) refl (rw by at q))
     where
-      go : (n : ℕ) → refusalOf day k c ≡ n → not (accepted (orRefuse k n (carryOut day (c .head .mark) k c) .answer) && not (declares (c .head .mark))) ≡ true → Young (orRefuse k n (carryOut day (c .head .mark) k c) .state)
+      go : (n : ℕ) → refusalOf day k c ≡ n → not (accepted (orRefuse k n (carryOut day k c) .answer) && not (declares (c .head .mark))) ≡ true → Young (orRefuse k n (carryOut day k c) .state)
       go zero e z =
-          byBool (declares (c .head .mark)) (λ d. young-declared (c .head .mark) d (all-passed day k c e))
-          (λ d. contra z (rw (carried-number day k c (c .head .mark), d)))
+          byBool (declares (c .head .mark)) (λ d. unfold carryOut declared in rw d (young-declared (passed day k c e)))
+          (λ d. contra z (rw (done-number day k c, d)))
       go (suc n) e z = unfold refuse in y
 
 module _ (day : ℕ) (isDay : IsDay day) where
   young-step : (k : State) → StateOk day k → Young k → (s : List ℕ) → not (accepted (step day k s .answer) && not (declaration (opened s .answer))) ≡ true → Young (step day k s .state)
   young-step k h y s q = rw on (go (opened s .answer) (rw on at q))
     where
-      on : step day k s ≡ stepRead day k (opened s .answer) (opened s .list)
+      on : step day k s ≡ stepOpened day k (opened s .answer) (opened s .list)
       on = step-on day k s (passes-of-ok day k h .tested)
 
-      go : (r : Read) → not (accepted (stepRead day k r (opened s .list) .answer) && not (declaration r)) ≡ true → Young (stepRead day k r (opened s .list) .state)
+      go : (r : Read) → not (accepted (stepOpened day k r (opened s .list) .answer) && not (declaration r)) ≡ true → Young (stepOpened day k r (opened s .list) .state)
       go (Refused n) z = unfold refuse in y
       go (Accepted d) z = young-carried day k h y (callWith d (opened s .list)) z
 

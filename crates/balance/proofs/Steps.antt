@@ -26,17 +26,18 @@ use Rattle.machine.specs.Sets.{has}
 use Rattle.machine.specs.State.{taskAt}
 use Rattle.machine.specs.Running.{runner}
 use Rattle.machine.specs.Work.{Work}
-use Rattle.machine.specs.Refusals.{declares, refusalOf}
-use Rattle.machine.specs.Step.{refuse, finish, declared, orRefuse, carryOut, carryOn, stepRead, step}
+use Rattle.machine.specs.Sorts.{declares}
+use Rattle.machine.specs.Calls.{workOf}
+use Rattle.machine.specs.Step.{refuse, finish, orRefuse, carryOut, carryOn, step}
 use Rattle.machine.specs.Invariants.{IsDay}
 use Rattle.machine.proofs.Sets.{has-empty, pow-pos}
 use Rattle.machine.proofs.Facts.{StateOk, passes-of-ok}
-use Rattle.machine.proofs.Marks.{carried-number}
-use Rattle.machine.proofs.Accepting.{all-passed, refusal-not-1, opened-refused, opened-priority}
-use Rattle.machine.proofs.Done.{Did, role, call-carried}
+use Rattle.machine.proofs.Passed.{refusalOf, passed}
+use Rattle.machine.proofs.Opened.{opened-refused, opened-priority}
+use Rattle.machine.proofs.Cases.{late-refusal, done-number, carried-by, stepOpened, step-on}
+use Rattle.machine.proofs.Done.{Did, role, call-done}
 use Rattle.machine.proofs.Keeping.{begin, begin-ok, did-ok, finish-ok}
-use Rattle.machine.proofs.Invariants.{step-on}
-use Rattle.balance.specs.Counting.{accepted, asks, gives, namesIn, Asking, counts, issuedBy, grantsIn, Open, isIssuer, tries, isIn}
+use Rattle.balance.specs.Counting.{accepted, asks, gives, namesIn, Asking, counts, issuedBy, grantsIn, Open, isIssuer, stays, isIn}
 use Rattle.balance.specs.Fresh.{declaration}
 use Rattle.balance.specs.Balance.{prevents}
 use Rattle.balance.proofs.Grants.{moved-refl, law-moved, no-grants}
@@ -56,7 +57,7 @@ module _ (a : Answer) (r : Read) (l : List ℕ) (before : Running) where
   openNow was i = (was i && not (isIn (a .ended) i)) || asksThen i
 
   abbrev pub openThen : Open → Open
-  openThen was i = ((was i && not (isIn (a .ended) i)) || (asksThen i && not (tries r))) && not (isIn (a .granted) i)
+  openThen was i = ((was i && not (isIn (a .ended) i)) || (asksThen i && stays r)) && not (isIn (a .granted) i)
 
 -- What each step keeps, besides the kernel test.
 pub record Invariant (day : ℕ) (k : State) (last : Asking) (was : Open) : Type 0 where
@@ -160,18 +161,18 @@ module _ (day : ℕ) (isDay : IsDay day) (k : State) (last : Asking) (was : Open
         }
 
     carry-books : d .priority < 256 → not (accepted (carryOn day k (callWith d l) .answer) && declares (d .mark)) ≡ true → StepBooks day k last was (Accepted d) l (carryOn day k (callWith d l))
-    unfolding carryOn
-    carry-books b o = go (refusalOf day k (callWith d l)) refl o
+    carry-books b o = let by = carried-by day k (callWith d l) in rw by (go (refusalOf day k (callWith d l)) refl (rw by at o))
       where
-        go : (m : ℕ) → refusalOf day k (callWith d l) ≡ m → not (accepted (orRefuse k m (carryOut day (d .mark) k (callWith d l)) .answer) && declares (d .mark)) ≡ true → StepBooks day k last was (Accepted d) l (orRefuse k m (carryOut day (d .mark) k (callWith d l)))
-        go (suc m) e q = refused-books (Accepted d) l m (λ z. refusal-not-1 day k (callWith d l) (e ∙ z))
+        go : (m : ℕ) → refusalOf day k (callWith d l) ≡ m → not (accepted (orRefuse k m (carryOut day k (callWith d l)) .answer) && declares (d .mark)) ≡ true → StepBooks day k last was (Accepted d) l (orRefuse k m (carryOut day k (callWith d l)))
+        go (suc m) e q = refused-books (Accepted d) l m (λ z. late-refusal day k (callWith d l) .no1 (e ∙ z))
         go zero e q =
-            byBool (declares (d .mark)) (λ z. contra q (rw (carried-number day k (callWith d l) (d .mark), z)))
-            (λ z. let x = call-carried day isDay k (h .ok) (callWith d l) (omega arith) (d .mark) z (all-passed day k (callWith d l) e) in rw (x .same) (finish-books (x .work) (x .did)))
+            byBool (declares (d .mark)) (λ z. contra q (rw (done-number day k (callWith d l), z)))
+            (λ z. unfold carryOut in rw z
+            (finish-books (workOf day k (callWith d l)) (call-done day isDay k (h .ok) (callWith d l) (omega arith) z (passed day k (callWith d l) e))))
 
   -- A record that reads as r with the list l.
   read-books : (r : Read) (l : List ℕ) → ((m : ℕ) → r ≡ Refused m → m ≡ 2) → ((d : Head) → r ≡ Accepted d → d .priority < 256)
-      → not (accepted (stepRead day k r l .answer) && declaration r) ≡ true → StepBooks day k last was r l (stepRead day k r l)
+      → not (accepted (stepOpened day k r l .answer) && declaration r) ≡ true → StepBooks day k last was r l (stepOpened day k r l)
   read-books (Refused m) l two byte o = let e = two m refl in rw e (refused-books (Refused 2) l 1 (λ z. omega arith))
   read-books (Accepted d) l two byte o = carry-books d l (byte d refl) o
 

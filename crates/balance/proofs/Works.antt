@@ -26,10 +26,10 @@ use Rattle.machine.specs.declared.Running.{Running}
 use Rattle.machine.specs.Sets.{has}
 use Rattle.machine.specs.State.{taskAt}
 use Rattle.machine.specs.Running.{runner}
-use Rattle.machine.specs.Work.{Work, oneTurn, everyTurn}
+use Rattle.machine.specs.Work.{Work, changed, everyTurn}
 use Rattle.machine.proofs.Sets.{has-empty, has-only, has-only-other, pow-pos, only-lt}
 use Rattle.machine.proofs.Facts.{StateOk, task-room}
-use Rattle.machine.proofs.Works.{turn-at, set-at, set-lt}
+use Rattle.machine.proofs.Works.{oneTurn, turn-at, set-at, set-lt}
 use Rattle.machine.proofs.Done.{Role, plain}
 use Rattle.balance.specs.Counting.{Named, Asking, counts, issuedBy, grantsIn, Open, isIssuer, isIn}
 use Rattle.balance.proofs.Grants.{no-grants, no-kind}
@@ -118,23 +118,23 @@ module _ (day : ℕ) (k : State) (h : StateOk day k) (c : Call) where
 
   module _ (i : ℕ) (u : Turn) (l : i < n) where
     pub at-turn : taskAt (oneTurn k i u .tasks) i ≡ u .task
-    unfolding oneTurn
+    unfolding changed
     at-turn = getD-set-same (k .tasks) i (u .task) noTask (omega (arith, task-room day k h))
 
     pub at-other : (j : ℕ) → j ≢ i → taskAt (oneTurn k i u .tasks) j ≡ t j
-    unfolding oneTurn
+    unfolding changed
     at-other j ne = getD-set-other (k .tasks) i j (u .task) noTask ne
 
     pub one-marked : (p : Bool) → (p ≡ true → c .head .number ≡ i) → Marked p (t i) (u .task) (bit (u .due)) (bit (u .started)) (bit (u .ended)) (bit (u .lost)) → (j : ℕ)
         → Marked (p && eqb (c .head .number) j) (t j) (taskAt (oneTurn k i u .tasks) j) (has j (oneTurn k i u .due)) (has j (oneTurn k i u .started)) (has j (oneTurn k i u .ended)) (has j (oneTurn k i u .lost))
     one-marked p f m j =
         byEq j i
-        (λ e. rw (e, prevents-at p (c .head .number) i f, at-turn) (unfold oneTurn in rw (has-only i (u .due), has-only i (u .started), has-only i (u .ended), has-only i (u .lost)) m))
+        (λ e. rw (e, prevents-at p (c .head .number) i f, at-turn) (unfold changed in rw (has-only i (u .due), has-only i (u .started), has-only i (u .ended), has-only i (u .lost)) m))
         (λ e. rw (prevents-other p (c .head .number) i j f e, at-other j e)
-        (unfold oneTurn in rw (has-only-other i j (u .due) e, has-only-other i j (u .started) e, has-only-other i j (u .ended) e, has-only-other i j (u .lost) e) (still-marked (t j) (t j) refl refl)))
+        (unfold changed in rw (has-only-other i j (u .due) e, has-only-other i j (u .started) e, has-only-other i j (u .ended) e, has-only-other i j (u .lost) e) (still-marked (t j) (t j) refl refl)))
 
     pub one-declared : Declared n (oneTurn k i u .due) (oneTurn k i u .started) (oneTurn k i u .ended) (oneTurn k i u .lost) (oneTurn k i u .granted)
-    unfolding oneTurn
+    unfolding changed
     one-declared = record { due = only-lt n i (u .due) l; started = only-lt n i (u .started) l; ended = only-lt n i (u .ended) l; lost = only-lt n i (u .lost) l; granted = pow-pos n }
 
     -- A turn of one task.
@@ -146,11 +146,11 @@ module _ (day : ℕ) (k : State) (h : StateOk day k) (c : Call) where
               (λ e. let z = rw (e, at-turn) at w in let y = g .wants z in rw (e, at-turn, y .0, y .1) (b i l (rw (y .0) at z)))
               (λ e. rw (at-other j e) (b j q (rw (at-other j e) at w)));
           waits = λ j q. byEq j i
-              (λ e. rw (e, at-turn, g .waits) (unfold oneTurn in rw (has-only i (u .ended), has-empty i, eqb-bit (u .ended)) (simp tests)))
-              (λ e. rw (at-other j e) (unfold oneTurn in rw (has-only-other i j (u .ended) e, has-empty j) (simp tests)));
-          asked = unfold oneTurn in λ j q e. none-granted j e;
-          values = unfold oneTurn in unmoved k (named c) last;
-          exclusive = unfold oneTurn in λ e. e;
+              (λ e. rw (e, at-turn, g .waits) (unfold changed in rw (has-only i (u .ended), has-empty i, eqb-bit (u .ended)) (simp tests)))
+              (λ e. rw (at-other j e) (unfold changed in rw (has-only-other i j (u .ended) e, has-empty j) (simp tests)));
+          asked = unfold changed in λ j q e. none-granted j e;
+          values = unfold changed in unmoved k (named c) last;
+          exclusive = unfold changed in λ e. e;
           declared = one-declared;
         }
 

@@ -4,19 +4,18 @@ use mathlib.Core.Bool.{Bool, true, false, not, cond, _&&_, _||_}
 use mathlib.Core.List.{List, [], _∷_}
 use Prim.Native.Nat.{ℕ, _+_, _*_, _<_}
 use lib.Dec.{eqb}
-use Rattle.layout.specs.Marks.{is}
 use Rattle.record.specs.Lists.{names}
 use Rattle.record.specs.Refusals.{named}
 use Rattle.record.specs.Reading.{callWith, opened}
 use Rattle.layout.specs.declared.Mark.{Mark}
-use Rattle.layout.specs.declared.Mark.the-variants.{RQ, RL, TR, RS, FR, ET, LV}
 use Rattle.record.specs.declared.Read.{Read}
 use Rattle.record.specs.declared.Read.the-variants.{Refused, Accepted}
 use Rattle.lock.specs.Locks.{bit, waiting, sameKind}
 use Rattle.lock.specs.declared.Wait.{Wait}
-use Rattle.lock.specs.declared.Wait.the-variants.{Nothing, Request, Reserve, Enter}
+use Rattle.lock.specs.declared.Wait.the-variants.{Nothing}
 use Rattle.machine.specs.Sets.{has}
 use Rattle.machine.specs.Sums.{sumBelow}
+use Rattle.machine.specs.Sorts.{sortOf, askedKind, staying, givenKind}
 use Rattle.machine.specs.Log.{Entry}
 use Rattle.machine.specs.declared.Answer.{Answer}
 use Rattle.machine.specs.declared.Running.{Running}
@@ -34,12 +33,11 @@ accepted a = eqb (a .number) 0
 
 -- What a mark asks for.
 unfoldable pub asks : Mark → Wait
-asks m =
-    cond (is m RQ || is m TR) Request (cond (is m RS) Reserve (cond (is m ET) Enter Nothing))
+asks m = askedKind (sortOf m)
 
 -- What a mark gives back.
 unfoldable pub gives : Mark → Wait
-gives m = cond (is m RL) Request (cond (is m FR) Reserve (cond (is m LV) Enter Nothing))
+gives m = givenKind (sortOf m)
 
 -- A kind of locks and the numbers named.
 pub record Named : Type 0 where
@@ -111,9 +109,10 @@ abbrev pub isIssuer : Running → ℕ → Bool
 isIssuer Idle i = false
 isIssuer (Runs j) i = eqb i j
 
-abbrev pub tries : Read → Bool
-tries (Refused n) = false
-tries (Accepted h) = is (h .mark) TR
+-- An asking stays open after its own answer, but for a TRY.
+abbrev pub stays : Read → Bool
+stays (Refused n) = true
+stays (Accepted h) = staying (sortOf (h .mark))
 
 -- Task i issued the record of e, an accepted RQ, TR, RS or ET.
 unfoldable pub asksNow : Running → Entry → ℕ → Bool
@@ -129,7 +128,7 @@ openAt before e was i = (was i && not (isIn (e .answer .ended) i)) || asksNow be
 -- Open after an answer. A TRY is open in its own answer only.
 unfoldable pub openAfter : Running → Entry → Open → Open
 openAfter before e was i =
-    ((was i && not (isIn (e .answer .ended) i)) || (asksNow before e i && not (tries (opened (e .bytes) .answer))))
+    ((was i && not (isIn (e .answer .ended) i)) || (asksNow before e i && stays (opened (e .bytes) .answer)))
     && not (isIn (e .answer .granted) i)
 
 -- Each granted mark of n tasks belongs to an open asking: over a log, after an answer with the running task before.

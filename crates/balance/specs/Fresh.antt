@@ -10,7 +10,7 @@ use Rattle.record.specs.declared.Read.the-variants.{Refused, Accepted}
 use Rattle.lock.specs.Locks.{emptyBolt, boltAt}
 use Rattle.machine.specs.State.{taskAt, enabledAt, freshTask, nothing}
 use Rattle.machine.specs.Test.{valid}
-use Rattle.machine.specs.Refusals.{declares}
+use Rattle.machine.specs.Sorts.{declares}
 use Rattle.machine.specs.Log.{Entry, final, log}
 use Rattle.machine.specs.Invariants.{IsDay, Tables}
 use Rattle.machine.specs.declared.State.{State}

@@ -1,157 +1,155 @@
--- What a call or declaration that no formal ground refuses has passed, and what it comes to by its mark.
+-- What a call or declaration that no formal ground refuses has passed, and what it comes to.
 use mathlib.Core.Path.{_≡_, refl, sym, ap, _∙_}
-use mathlib.Core.Bool.{true, false, cond, _&&_}
+use mathlib.Core.Bool.{Bool, true, false, _&&_}
 use mathlib.Core.List.{List, []}
 use Prim.Native.Nat.{ℕ, zero, suc, _≤_, _<_, _%_}
-use lib.Dec.{leb, ltb}
-use lib.ListN.{take, drop}
 use native.Mathlib.Omega.{arith}
-use borrow.Author.Tests.{leb-true, ltb-true, eqb-true}
+use lib.Dec.{leb, ltb}
+use borrow.Author.Tests.{leb-true, ltb-true}
+use Rattle.layout.specs.Marks.{form}
 use Rattle.layout.specs.declared.Call.{Call}
 use Rattle.layout.specs.declared.Head.{Head}
 use Rattle.layout.specs.declared.Mark.{Mark}
-use Rattle.layout.specs.declared.Mark.the-variants.{DS, DC, AC}
-use Rattle.layout.specs.declared.Form.the-variants.{Preset, Numbers, OneNumber}
-use Rattle.layout.specs.Marks.{form}
-use Rattle.record.specs.Lists.{distinct, names, allZero}
-use Rattle.record.specs.Reading.{callWith, opened}
+use Rattle.layout.specs.declared.Mark.the-variants.{DS}
+use Rattle.layout.specs.declared.Form.the-variants.{Preset}
+use Rattle.record.specs.Lists.{distinct}
+use Rattle.record.specs.Reading.{callWith}
+use Rattle.record.specs.Refusals.{mostNumbers, mostValue, named, uses, cleanNames, cleanStart, ranged}
 use Rattle.record.specs.declared.Read.the-variants.{Refused, Accepted}
 use Rattle.record.specs.declared.Reading.{Reading}
-use Rattle.record.specs.Refusals.{mostNumbers, mostValue, formedAs, formed, listed, ranged, uses, orZero, cleanNames, cleanStart, shape}
-use Rattle.record.proofs.OpenedLaws.{Opening, opens}
-use Rattle.record.proofs.OpenedLaws.Opening.{unsized, unmarked, marked}
-use Rattle.lock.proofs.Bools.{both}
-use Rattle.machine.specs.Refusals.{declares, declaredIn, roomFor, formalRefusal, stateRefusalOf, refusalOf}
-use Rattle.machine.specs.Running.{runner}
-use Rattle.machine.specs.Test.{valid}
-use Rattle.machine.specs.Step.{refuse, declared, orRefuse, carryOut, carryOn, stepRead, step}
+use Rattle.lock.specs.Locks.{mostLocks, every}
+use Rattle.lock.specs.declared.Wait.{Wait}
+use Rattle.lock.proofs.Bools.{byBool, contra, both}
 use Rattle.machine.specs.declared.State.{State}
 use Rattle.machine.specs.declared.Running.{Running}
-use Rattle.machine.specs.declared.Running.the-variants.{Idle}
+use Rattle.machine.specs.declared.Running.the-variants.{Idle, Runs}
+use Rattle.machine.specs.declared.Sort.{Sort}
+use Rattle.machine.specs.declared.Sort.the-variants.{Declaration, OneTask, TheRunner, ListAsked, ListGiven, AnInterrupt, EveryTask}
 use Rattle.machine.specs.declared.Stepped.{Stepped}
-use Rattle.machine.proofs.Passed.{unless-passed, Formal, formal}
-use Rattle.machine.proofs.Done.{distinct-one}
-use Rattle.calls.specs.Inner.{accordingly}
-use Rattle.calls.proofs.RefusalLaws.{shaped-short}
-
--- A declaration that is none of the first four.
-pub last-declared : (m : Mark) → DC ≡ cond (declares m) m DC → declares m ≡ true → m ≡ DC
-last-declared m e d = sym (e ∙ ap (λ b. cond b m DC) d)
+use Rattle.machine.specs.State.{mostTasks, taskAt}
+use Rattle.machine.specs.Running.{runner}
+use Rattle.machine.specs.Test.{valid}
+use Rattle.machine.specs.Sorts.{sortOf, declaring, declares, placeOf, runnerAt}
+use Rattle.machine.specs.Refusals.{listDeclared, declaredBy, formalRefusal, admitted, refusalBy, stateRefusal}
+use Rattle.machine.specs.Calls.{declaration, workBy}
+use Rattle.machine.specs.Step.{refuse, declared, finish, orRefuse, carryOut, settle, stepRead, step}
+use Rattle.machine.proofs.Urgency.{Below, runner-below}
+use Rattle.machine.proofs.Passed.{Formal, formal, formal-as}
+use Rattle.machine.proofs.Sorts.{listing, list-mark, list-shape, no-list}
+use Rattle.calls.specs.Inner.{InOrder}
+use Rattle.calls.proofs.AskLaws.{list-below}
+use Rattle.calls.proofs.RefusalLaws.{refusal-by}
+use Rattle.calls.proofs.TurnCases.{places-fit, sound}
 
 module _ (day : ℕ) (k : State) (h : Head) (l : List ℕ) where
-  -- ---- what it comes to
+  abbrev call : Call
+  call = callWith h l
 
-  abbrev pub By : Mark → Stepped
-  By m = orRefuse k (stateRefusalOf m k (callWith h l)) (carryOut day m k (callWith h l))
+  module _ (f : formalRefusal day (k .counts) (k .begun) call ≡ 0) where
+    pub past : Formal day (h .mark) (k .counts) (k .begun) call
+    past = formal day (k .counts) (k .begun) call f
 
-  pub as-mark : {m : Mark} → h .mark ≡ m → By m ≡ accordingly day k (callWith h l)
-  unfolding accordingly
-  as-mark e = rw e
-
-  pub as-declared :
-      {m : Mark} {d e : State} {r : Running} → h .mark ≡ m → r ≡ runner k → d ≡ e → declared k e ≡ By m
-      → refuse d 0 r ≡ accordingly day k (callWith h l)
-  unfolding refuse declared
-  as-declared o q s b = rw (q, s) (b ∙ as-mark o)
-
-  -- ---- what it has passed
-
-  module _ (f : formalRefusal day (k .counts) (k .begun) (callWith h l) ≡ 0) where
-    abbrev past : Formal day (k .counts) (k .begun) (callWith h l)
-    past = formal day (k .counts) (k .begun) (callWith h l) f
-
-    pub known : {m : Mark} → h .mark ≡ m → declaredIn m (k .counts) (callWith h l) ≡ true
-    known e = sym (ap (λ (m : Mark). declaredIn m (k .counts) (callWith h l)) e) ∙ past .known
-
-    pub room : {m : Mark} → h .mark ≡ m → roomFor m (k .counts) ≡ true
-    room e = rw e at (past .room)
-
-    short : h .len ≤ mostNumbers
-    short = shaped-short (callWith h l) (past .shaped)
-
-    shaped : (formed (callWith h l) ≡ true) × (listed (form (h .mark)) (callWith h l) ≡ true)
-    unfolding shape
-    shaped =
-        let a = unless-passed (formed (callWith h l)) 2 _ (past .shaped) in
-        (a .0, unless-passed (listed (form (h .mark)) (callWith h l)) 3 0 (a .1) .0)
-
-    -- The list's length and numbers.
-    abbrev pub Listed : Type 0
-    Listed = (1 ≤ h .len) × ((h .len ≤ mostNumbers) × (distinct (take (h .len) l) ≡ true))
-
-    pub list-some : {m : Mark} → h .mark ≡ m → form m ≡ Numbers → Listed
-    unfolding listed
-    list-some e g =
-        let a = both (leb 1 (h .len)) (distinct (take (h .len) l)) (rw (e, g) at (shaped .1)) in
-        (leb-true 1 (h .len) (a .0), (short, a .1))
-
-    pub list-one : {m : Mark} → h .mark ≡ m → form m ≡ OneNumber → Listed
-    unfolding listed
-    list-one e g =
-        let a = eqb-true (h .len) 1 (rw (e, g) at (shaped .1)) in
-        (omega (arith, a), (short, rw a (distinct-one l)))
-
-    -- A call of a form without a list names nothing.
-    pub no-list : {m : Mark} → h .mark ≡ m → uses (form m) h .list ≡ false → h .len ≡ 0
-    unfolding formed cleanNames
-    no-list {m} e n =
-        let g = sym (ap (λ (m : Mark). formedAs (form m) (callWith h l)) e) ∙ shaped .0 in
-        let u = uses (form m) h in
-        let others = orZero (u .number) (h .number) && orZero (u .priority) (h .priority) in
-        let a = both (cleanNames u (callWith h l)) (cleanStart u h && ranged (form m) h) g .0 in
-        let b = both (others && orZero (u .list) (h .len)) (allZero (drop (h .len) l)) a .0 in
-        eqb-true (h .len) 0 (sym (ap (λ x. orZero x (h .len)) n) ∙ both others (orZero (u .list) (h .len)) b .1)
-
-    preset-fits : h .mark ≡ DS → h .first ≤ mostValue
-    unfolding formed ranged
-    preset-fits e =
-        let g = sym (ap (λ (m : Mark). formedAs (form m) (callWith h l)) e) ∙ shaped .0 in
-        let b = both (cleanNames (uses Preset h) (callWith h l)) (cleanStart (uses Preset h) h && ranged Preset h) g .1 in
-        leb-true (h .first) mostValue (both (cleanStart (uses Preset h) h) (ranged Preset h) b .1)
+    -- ---- declarations
 
     pub preset-same : h .mark ≡ DS → h .first % 65536 ≡ h .first
-    preset-same e = let b = preset-fits e in omega (arith, b)
+    unfolding ranged
+    preset-same e =
+        let g = formal-as {day} {k .counts} {k .begun} {call} e past .formed in
+        let b = both (cleanNames (uses Preset h) call) (cleanStart (uses Preset h) h && ranged Preset h) g .1 in
+        let m = leb-true (h .first) mostValue (both (cleanStart (uses Preset h) h) (ranged Preset h) b .1) in
+        omega (arith, m)
 
-    pub start-known : h .mark ≡ AC → h .number < k .counts .tasks
-    unfolding declaredIn
-    start-known e = ltb-true _ _ (both (ltb (h .number) (k .counts .tasks)) _ (known e) .0)
+    -- ---- the list, if there is one
+
+    declared-list : (s : Sort) → listing s ≡ true → declaredBy s (k .counts) call ≡ true → (w : Wait) × (listDeclared (k .counts) w call ≡ true)
+    unfolding declaredBy
+    declared-list Declaration e d = contra e refl
+    declared-list OneTask e d = contra e refl
+    declared-list TheRunner e d = contra e refl
+    declared-list (ListAsked w b) e d = (w, d)
+    declared-list (ListGiven w) e d = (w, d)
+    declared-list AnInterrupt e d = contra e refl
+    declared-list EveryTask e d = contra e refl
+
+    pub named-once : listing (sortOf (h .mark)) ≡ true → (1 ≤ h .len) × (h .len ≤ mostNumbers) × (distinct (named call) ≡ true)
+    named-once e =
+        let s = list-shape (form (h .mark)) call (sym (list-mark (h .mark) h) ∙ e) (past .formed) (past .listed) in
+        let b = both (leb 1 (h .len)) (leb (h .len) mostNumbers) (s .0) in
+        (leb-true _ _ (b .0), leb-true _ _ (b .1), s .1)
+
+    pub in-order : valid day k ≡ true → InOrder call
+    unfolding distinct every
+    in-order v =
+        byBool (listing (sortOf (h .mark)))
+        (λ e.
+        let (w, d) = declared-list (sortOf (h .mark)) e (past .known) in
+        let o = named-once e in
+        record { short = o .1; once = o .2; below = list-below day k v w call d })
+        (λ e.
+        let z = no-list (form (h .mark)) call (sym (list-mark (h .mark) h) ∙ e) (past .formed) in
+        record { short = omega arith; once = rw z; below = rw z })
+
+    -- ---- whom it is about
+
+    pub place-in : valid day k ≡ true → (s : Sort) → s ≡ sortOf (h .mark) → placeOf s h (runner k) < mostTasks
+    unfolding declaredBy
+    place-in v s q = go s q
+      where
+        few : k .counts .tasks ≤ mostTasks
+        few = places-fit k (sound day k v .waits)
+
+        at-runner : (r : Running) → Below (k .counts .tasks) r → runnerAt r < mostTasks
+        at-runner Idle b = omega arith
+        at-runner (Runs i) b = omega (arith, few, b)
+
+        go : (s : Sort) → s ≡ sortOf (h .mark) → placeOf s h (runner k) < mostTasks
+        go Declaration q = at-runner (runner k) (runner-below k)
+        go OneTask q = omega (arith, few, ltb-true (h .number) (k .counts .tasks) (both (ltb (h .number) (k .counts .tasks)) _ (rw (← q) at (past .known)) .0))
+        go TheRunner q = at-runner (runner k) (runner-below k)
+        go (ListAsked w b) q = at-runner (runner k) (runner-below k)
+        go (ListGiven w) q = at-runner (runner k) (runner-below k)
+        go AnInterrupt q = at-runner (runner k) (runner-below k)
+        go EveryTask q = at-runner (runner k) (runner-below k)
+
+  -- ---- what it comes to
+
+  refused-as : (n m : ℕ) (s : Stepped) {r : Running} → r ≡ runner k → n ≡ m → (n ≡ 0 → ⊥) → refuse k n r ≡ orRefuse k m s
+  refused-as zero m s e f z = absurd (z refl)
+  refused-as (suc n) m s e f z = ap (refuse k (suc n)) e ∙ ap (λ x. orRefuse k x s) f
+
+  pub settled-refused : {n : ℕ} {r : Running} → r ≡ runner k → n ≡ stateRefusal (h .mark) k call → (n ≡ 0 → ⊥) → refuse k n r ≡ settle day k call
+  unfolding settle
+  settled-refused {n = n} e f z = refused-as n _ _ e f z
+
+  declaration-sort : (s : Sort) → declaring s ≡ true → s ≡ Declaration
+  declaration-sort Declaration e = refl
+  declaration-sort OneTask e = contra e refl
+  declaration-sort TheRunner e = contra e refl
+  declaration-sort (ListAsked w b) e = contra e refl
+  declaration-sort (ListGiven w) e = contra e refl
+  declaration-sort AnInterrupt e = contra e refl
+  declaration-sort EveryTask e = contra e refl
+
+  pub settled-declared : declares (h .mark) ≡ true → declared k (declaration (h .mark) call k) ≡ settle day k call
+  unfolding settle carryOut declares
+  settled-declared d = let q = declaration-sort (sortOf (h .mark)) d in rw (d, ← refusal-by call (runner k) (taskAt (k .tasks) (placeOf (sortOf (h .mark)) h (runner k))) (k .locks) (k .now) (h .mark) Declaration q)
+
+  pub settled-call : declares (h .mark) ≡ false → stateRefusal (h .mark) k call ≡ 0 → {s : Sort} → s ≡ sortOf (h .mark) → finish k (workBy day s k call) ≡ settle day k call
+  unfolding settle carryOut
+  settled-call d e q = rw (d, e, q)
 
 -- ---- the step
 
-module _ (day : ℕ) (k : State) where
-  pub refused-formally :
-      (c : Call) (n : ℕ) {r : Running} → n ≡ formalRefusal day (k .counts) (k .begun) c → (n ≡ 0 → ⊥) → r ≡ runner k
-      → refuse k n r ≡ carryOn day k c
-  unfolding carryOn refusalOf
-  refused-formally c zero e ne q = absurd (ne refl)
-  refused-formally c (suc n) e ne q = rw (← e, q)
+module _ (day : ℕ) (k : State) (s : List ℕ) where
+  pub step-1 : valid day k ≡ false → refuse k 1 Idle ≡ step day k s
+  unfolding step
+  step-1 e = rw e
 
-  pub passed-formally : (c : Call) → formalRefusal day (k .counts) (k .begun) c ≡ 0 → accordingly day k c ≡ carryOn day k c
-  unfolding accordingly carryOn refusalOf
-  passed-formally c e = rw e
-
-  module _ (s : List ℕ) where
-    pub read-nothing :
-        {r : Reading} {n : ℕ} {x : Running} → r ≡ opened s → r .answer ≡ Refused n → x ≡ runner k
-        → refuse k 2 x ≡ stepRead day k (opened s .answer) (opened s .list)
-    read-nothing {n = n} {x = x} o a q = by (opens s) where
-      by : Opening s → refuse k 2 x ≡ stepRead day k (opened s .answer) (opened s .list)
-      by (unsized ne e) = rw (e, q)
-      by (unmarked ne e) = rw (e, q)
-      by (marked m l j e) =
-          let z = sym a ∙ ap (λ (t : Reading). t .answer) (o ∙ e) in
-          let y : _≡_ {A = ℕ} 0 1 = cc in
-          absurd (omega arith)
-
-    pub read-call :
-        {r : Reading} {h : Head} → r ≡ opened s → r .answer ≡ Accepted h
-        → carryOn day k (callWith h (r .list)) ≡ stepRead day k (opened s .answer) (opened s .list)
-    read-call o a = rw (← o, a)
-
-    pub step-1 : valid day k ≡ false → refuse k 1 Idle ≡ step day k s
+  module _ (v : valid day k ≡ true) {r : Reading} (o : r ≡ admitted day (k .counts) (k .begun) s) where
+    pub step-refused : {n : ℕ} {x : Running} → r .answer ≡ Refused n → x ≡ runner k → refuse k n x ≡ step day k s
     unfolding step
-    step-1 e = rw e
+    step-refused a q = rw (v, ← o, a, q)
 
-    pub step-tested : valid day k ≡ true → stepRead day k (opened s .answer) (opened s .list) ≡ step day k s
+    pub step-admitted : {h : Head} → r .answer ≡ Accepted h → settle day k (callWith h (r .list)) ≡ step day k s
     unfolding step
-    step-tested e = rw e
+    step-admitted a = rw (v, ← o, a)

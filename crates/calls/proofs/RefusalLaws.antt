@@ -1,17 +1,54 @@
--- What passes the first of the formal refusals.
+-- What the state refuses, by the sort of the mark.
 use mathlib.Core.Path.{_≡_, refl}
-use mathlib.Core.Bool.{Bool, true, false}
-use Prim.Native.Nat.{_≤_}
-use native.Mathlib.Omega.{arith}
+use mathlib.Core.Bool.{Bool, true, false, not, _||_, or-true}
+use Prim.Native.Nat.{ℕ}
+use lib.Dec.{ltb}
+use Rattle.calendar.specs.Limits.{lastInstant}
+use Rattle.calendar.specs.declared.Instant.{Instant}
+use Rattle.layout.specs.Marks.{is}
 use Rattle.layout.specs.declared.Call.{Call}
-use Rattle.layout.specs.Marks.{form}
-use Rattle.record.specs.Refusals.{mostNumbers, unless, formed, listed, shape}
-use Rattle.record.proofs.ShapeLaws.{formed-short}
+use Rattle.layout.specs.declared.Mark.{Mark}
+use Rattle.layout.specs.declared.Mark.the-variants.{AC, TE, SU, CO, TI}
+use Rattle.record.specs.Refusals.{named, unless}
+use Rattle.lock.specs.Locks.{waiting, every, taken}
+use Rattle.lock.specs.declared.Locks.{Locks}
+use Rattle.lock.specs.declared.Wait.{Wait}
+use Rattle.lock.specs.declared.Wait.the-variants.{Nothing, Request, Reserve, Enter}
+use Rattle.task.specs.declared.Task.{Task}
+use Rattle.machine.specs.declared.Running.{Running}
+use Rattle.machine.specs.declared.Sort.{Sort}
+use Rattle.machine.specs.declared.Sort.the-variants.{Declaration, OneTask, TheRunner, ListAsked, ListGiven, AnInterrupt, EveryTask}
+use Rattle.machine.specs.Running.{someone}
+use Rattle.machine.specs.Sorts.{sortOf, naming}
+use Rattle.machine.specs.Refusals.{unreturnable, refusalBy}
+use Rattle.machine.proofs.Sorts.{other-mark, given-waits, tick-mark}
+use Rattle.calls.specs.Inner.{ticking, namedRefusal}
 
--- A list of a shape that isn't refused is no longer than the longest.
-pub shaped-short : (c : Call) → shape c ≡ 0 → c .head .len ≤ mostNumbers
-unfolding shape
-shaped-short c e = go (formed c) refl e where
-  go : (b : Bool) → formed c ≡ b → unless b 3 (unless (listed (form (c .head .mark)) c) 4 0) ≡ 0 → c .head .len ≤ mostNumbers
-  go true t z = formed-short c t
-  go false t z = absurd (omega arith)
+abbrev bySort : Sort → Mark → Call → Running → Task → Locks → Instant → ℕ
+bySort Declaration m c r t l n = 0
+bySort OneTask m c r t l n = namedRefusal m (c .head) t
+bySort TheRunner m c r t l n = unless (someone r) 8 0
+bySort (ListAsked w b) m c r t l n = unless (someone r) 8 0
+bySort (ListGiven w) m c r t l n = unless (someone r) 8 (unless (every (taken w l) (named c)) (unreturnable w) 0)
+bySort AnInterrupt m c r t l n = 0
+bySort EveryTask m c r t l n = unless (ltb (n .0) lastInstant) 15 0
+
+module _ (c : Call) (r : Running) (t : Task) (l : Locks) (n : Instant) where
+  pub refusal-by : (m : Mark) (s : Sort) → sortOf m ≡ s → bySort s m c r t l n ≡ refusalBy m c r t l n
+  unfolding refusalBy namedRefusal
+  refusal-by m s q = go s q
+    where
+      unnamed : naming (sortOf m) ≡ false → (is m AC ≡ false) × (is m TE ≡ false) × (is m SU ≡ false) × (is m CO ≡ false)
+      unnamed e = (other-mark naming m AC refl e, other-mark naming m TE refl e, other-mark naming m SU refl e, other-mark naming m CO refl e)
+
+      unticked : ticking (sortOf m) ≡ false → is m TI ≡ false
+      unticked e = other-mark ticking m TI refl e
+
+      go : (s : Sort) → sortOf m ≡ s → bySort s m c r t l n ≡ refusalBy m c r t l n
+      go Declaration q = let u = unnamed (rw q) in rw (q, u .0, u .1, u .2, u .3, unticked (rw q))
+      go OneTask q = rw (q, unticked (rw q))
+      go TheRunner q = let u = unnamed (rw q) in rw (q, u .0, u .1, u .2, u .3, unticked (rw q))
+      go (ListAsked w b) q = let u = unnamed (rw q) in rw (q, u .0, u .1, u .2, u .3, unticked (rw q))
+      go (ListGiven w) q = let u = unnamed (rw q) in rw (q, u .0, u .1, u .2, u .3, unticked (rw q), given-waits m q)
+      go AnInterrupt q = let u = unnamed (rw q) in rw (q, u .0, u .1, u .2, u .3, unticked (rw q))
+      go EveryTask q = let u = unnamed (rw q) in rw (q, u .0, u .1, u .2, u .3, tick-mark m q)

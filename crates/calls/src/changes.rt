@@ -1,10 +1,16 @@
 // What a call does to the task that it is about and to the locks.
 ghost use mathlib.Core.Path.{_≡_};
-ghost use Prim.Native.Nat.{_≤_, _<_};
+ghost use Prim.Native.Nat.{ℕ, _≤_, _<_};
 ghost use Rattle.calendar.specs.Limits.{day, lastInstant};
 ghost use Rattle.record.specs.Reading.{callWith};
 ghost use Rattle.machine.specs.State.{mostTasks};
-ghost use Rattle.calls.specs.Changes.{runnerAt, placeOf, Unrefused, InOrder, byTurn, byLocks, asks, changeOf, marksBy};
+ghost use Rattle.machine.specs.Sorts.{sortOf, runnerAt, placeOf};
+ghost use Rattle.machine.specs.Work.{byTurn, byLocks};
+ghost use Rattle.machine.specs.Calls.{namedTurn, runnerTurn, asks, changeOf};
+ghost use Rattle.calls.specs.Inner.{InOrder, Returnable, marksBy};
+ghost use Rattle.task.specs.declared.Task.{Task};
+ghost use mathlib.Core.List.{List};
+use crate::sorts::is_naming;
 use crate::turns::activate;
 use calendar::Duration;
 use calendar::Instant;
@@ -13,22 +19,13 @@ use layout::Mark;
 use layout::Numbers;
 use lock::Locks;
 use lock::Wait;
+use machine::Change;
 use machine::Running;
+use machine::Sort;
 use serving::ends::Marks;
 use survey::sets::only_task;
 use task::Task;
 use task::Turn;
-
-// The task and the locks after a call, and which sets have the task.
-pub struct Change {
-    pub task: Task,
-    pub locks: Locks,
-    pub due: bool,
-    pub started: bool,
-    pub ended: bool,
-    pub lost: bool,
-    pub granted: bool,
-}
 
 // The running task, or task 0 where nobody runs.
 fn runner_at(r: Running) -> usize
@@ -41,14 +38,13 @@ fn runner_at(r: Running) -> usize
 }
 
 // The task that a call names, else the running one.
-pub(crate) fn place_of(h: Head, r: Running) -> usize
-    ensures { λ i. ⌜ i ≡ placeOf (h .mark) h r ⌝ }
+pub(crate) fn place_of(sort: Sort, h: Head, r: Running) -> usize
+    ensures { λ i. ⌜ i ≡ placeOf sort h r ⌝ }
 {
-    let mark = h.mark;
-    match mark {
-        Mark::AC | Mark::TE | Mark::SU | Mark::PR | Mark::CO => h.number as usize,
-        _ => runner_at(r),
+    if is_naming(sort) {
+        return h.number as usize;
     }
+    runner_at(r)
 }
 
 fn by_turn(locks: Locks, u: Turn) -> Change
@@ -80,10 +76,37 @@ fn by_locks(task: Task, locks: Locks, granted: bool) -> Change
     }
 }
 
-// The task asks for a list: it is granted whole, or the task waits; a TRY doesn't wait.
-fn asked(waits: bool, w: Wait, h: Head, list: Numbers, t: Task, locks: Locks) -> Change
+// The turn of the task that AC, TE, SU, PR or CO names.
+fn named_turn(t: Task, clock: u32, now: Instant, h: Head) -> Turn
+    requires { ⌜ now .0 ≤ lastInstant ⌝ }
+    ensures { λ u. ⌜ u ≡ namedTurn day clock now (h .mark) h t ⌝ }
+{
+    let mark = h.mark;
+    match mark {
+        Mark::AC => activate(t, clock, now, h),
+        Mark::TE => t.end(),
+        Mark::SU => t.suspend(),
+        Mark::PR => t.prevent(),
+        _ => t.go_on(h.priority),
+    }
+}
+
+// The running task's turn at RE or EN.
+fn runner_turn(t: Task, now: Instant, h: Head) -> Turn
+    requires { ⌜ now .0 ≤ lastInstant ⌝ }
+    ensures { λ u. ⌜ u ≡ runnerTurn now (h .mark) h t ⌝ }
+{
+    let mark = h.mark;
+    match mark {
+        Mark::RE => t.delay(now.plus(Duration(h.first))),
+        _ => t.end(),
+    }
+}
+
+// The running task asks for a list: it is granted whole, or the task waits; a TRY doesn't wait.
+fn asked(w: Wait, waits: bool, h: Head, list: Numbers, t: Task, locks: Locks) -> Change
     requires { ⌜ InOrder (callWith h list) ⌝ }
-    ensures { λ c. ⌜ c ≡ asks waits w (callWith h list) t locks ⌝ }
+    ensures { λ c. ⌜ ((n : ℕ) (ts : List Task) → c ≡ asks n ts w waits (callWith h list) t locks) ⌝ }
 {
     let n = h.len as usize;
     if locks.is_grantable(w, n, list) {
@@ -95,8 +118,9 @@ fn asked(waits: bool, w: Wait, h: Head, list: Numbers, t: Task, locks: Locks) ->
     by_locks(t.waiting_for(w, h.len, list), locks, false)
 }
 
-// What an accepted call does, at instant now.
+// What an accepted call of a sort does to the task that it is about and to the locks, at instant now.
 pub(crate) fn change_of(
+    sort: Sort,
     h: Head,
     list: Numbers,
     t: Task,
@@ -106,26 +130,19 @@ pub(crate) fn change_of(
 ) -> Change
     requires { ⌜ now .0 ≤ lastInstant ⌝ }
     requires { ⌜ InOrder (callWith h list) ⌝ }
-    requires { ⌜ Unrefused (callWith h list) t locks now ⌝ }
-    ensures { λ c. ⌜ c ≡ changeOf day (h .mark) (callWith h list) clock now t locks ⌝ }
+    requires { ⌜ sort ≡ sortOf (h .mark) ⌝ }
+    requires { ⌜ Returnable sort locks (callWith h list) ⌝ }
+    ensures { λ c. ⌜ ((n : ℕ) (ts : List Task) → c ≡ changeOf n ts day sort (callWith h list) clock now t locks) ⌝ }
 {
-    let mark = h.mark;
     let n = h.len as usize;
-    match mark {
-        Mark::AC => by_turn(locks, activate(t, clock, now, h)),
-        Mark::TE | Mark::EN => by_turn(locks, t.end()),
-        Mark::SU => by_turn(locks, t.suspend()),
-        Mark::PR => by_turn(locks, t.prevent()),
-        Mark::CO => by_turn(locks, t.go_on(h.priority)),
-        Mark::RE => by_turn(locks, t.delay(now.plus(Duration(h.first)))),
-        Mark::RQ => asked(true, Wait::Request, h, list, t, locks),
-        Mark::TR => asked(false, Wait::Request, h, list, t, locks),
-        Mark::RS => asked(true, Wait::Reserve, h, list, t, locks),
-        Mark::ET => asked(true, Wait::Enter, h, list, t, locks),
-        Mark::RL => by_locks(t, locks.give_all(Wait::Request, n, list), false),
-        Mark::FR => by_locks(t, locks.give_all(Wait::Reserve, n, list), false),
-        Mark::LV => by_locks(t, locks.give_all(Wait::Enter, n, list), false),
-        _ => by_locks(t, locks, false),
+    match sort {
+        Sort::OneTask => by_turn(locks, named_turn(t, clock, now, h)),
+        Sort::TheRunner => by_turn(locks, runner_turn(t, now, h)),
+        Sort::ListAsked(w, waits) => asked(w, waits, h, list, t, locks),
+        Sort::ListGiven(w) => by_locks(t, locks.give_all(w, n, list), false),
+        Sort::Declaration => by_locks(t, locks, false),
+        Sort::AnInterrupt => by_locks(t, locks, false),
+        Sort::EveryTask => by_locks(t, locks, false),
     }
 }
 

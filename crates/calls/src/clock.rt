@@ -7,19 +7,21 @@ ghost use Rattle.task.specs.Turns.{triggerTurn};
 ghost use Rattle.machine.specs.State.{mostTasks, withState};
 ghost use Rattle.machine.specs.Running.{runner};
 ghost use Rattle.machine.specs.Test.{valid};
-ghost use Rattle.machine.specs.Refusals.{stateRefusalOf};
+ghost use Rattle.machine.specs.Refusals.{stateRefusal};
 ghost use Rattle.machine.specs.Work.{everyTurn};
-ghost use Rattle.machine.specs.Calls.{tick, trigger, enable};
+ghost use Rattle.machine.specs.Calls.{tick, trigger, enable, interruptBy};
 ghost use Rattle.machine.specs.Step.{finish, orRefuse};
 ghost use Rattle.survey.specs.Looks.{putIf, waitsOk};
 ghost use Rattle.serving.specs.Ends.{marksOf};
 ghost use Rattle.calls.specs.Stirring.{mayStir};
-ghost use Rattle.layout.specs.declared.Mark.{Mark};
+ghost use Rattle.layout.specs.declared.Mark.the-variants.{TI};
 ghost use Rattle.layout.specs.declared.Call.{Call};
 use crate::declarations::answered;
 use calendar::Duration;
 use calendar::Instant;
 use calendar::LAST_INSTANT;
+use layout::Head;
+use layout::Mark;
 use machine::Answer;
 use machine::Running;
 use machine::State;
@@ -110,7 +112,7 @@ pub(crate) fn trigger_all(mut k: State, interrupt: u8) -> Working
 pub(crate) fn ticked(mut k: State, r: Running) -> Stepped
     requires { ⌜ valid day k ≡ true ⌝ }
     requires { ⌜ r ≡ runner k ⌝ }
-    ensures { λ s. ⌜ ((c : Call) → s ≡ orRefuse k (stateRefusalOf Mark.TI k c) (finish k (tick k))) ⌝ }
+    ensures { λ s. ⌜ ((c : Call) → s ≡ orRefuse k (stateRefusal TI k c) (finish k (tick k))) ⌝ }
 {
     let now = k.now;
     if LAST_INSTANT <= now.0 {
@@ -147,7 +149,7 @@ pub(crate) fn ticked(mut k: State, r: Running) -> Stepped
     }
 }
 
-pub(crate) fn triggered(k: State, i: u8) -> Stepped
+fn triggered(k: State, i: u8) -> Stepped
     requires { ⌜ valid day k ≡ true ⌝ }
     requires { ⌜ i < k .counts .interrupts ⌝ }
     ensures { λ s. ⌜ s ≡ finish k (trigger day k i) ⌝ }
@@ -162,11 +164,25 @@ pub(crate) fn triggered(k: State, i: u8) -> Stepped
 }
 
 // ENABLE and DISABLE.
-pub(crate) fn enabled_as(mut k: State, i: usize, b: bool) -> Stepped
+fn enabled_as(mut k: State, i: usize, b: bool) -> Stepped
     requires { ⌜ waitsOk k ≡ true ⌝ }
     requires { ⌜ i < k .counts .interrupts ⌝ }
     ensures { λ s. ⌜ s ≡ finish k (enable k i b) ⌝ }
 {
     k.enabled[i] = b;
     done(k)
+}
+
+// TRIGGER, ENABLE and DISABLE.
+pub(crate) fn interrupted(k: State, h: Head) -> Stepped
+    requires { ⌜ valid day k ≡ true ⌝ }
+    requires { ⌜ h .number < k .counts .interrupts ⌝ }
+    ensures { λ s. ⌜ s ≡ finish k (interruptBy day (h .mark) k (h .number)) ⌝ }
+{
+    let mark = h.mark;
+    match mark {
+        Mark::TG => triggered(k, h.number),
+        Mark::EI => enabled_as(k, h.number as usize, true),
+        _ => enabled_as(k, h.number as usize, false),
+    }
 }

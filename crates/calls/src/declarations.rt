@@ -5,12 +5,11 @@ ghost use mathlib.Core.List.{List};
 ghost use Prim.Native.Nat.{ℕ, _<_};
 ghost use Rattle.calendar.specs.Limits.{day};
 ghost use Rattle.record.specs.Reading.{callWith};
-ghost use Rattle.machine.specs.Refusals.{declares, formalRefusal};
+ghost use Rattle.machine.specs.Refusals.{formalRefusal};
 ghost use Rattle.machine.specs.Running.{runner};
 ghost use Rattle.machine.specs.State.{mostTasks, mostSemaphores, mostBolts, mostInterrupts, withClock};
-ghost use Rattle.machine.specs.Calls.{addTask, addSemaphore, addBolt, addInterrupt};
-ghost use Rattle.machine.specs.Step.{refuse};
-ghost use Rattle.calls.specs.Inner.{accordingly};
+ghost use Rattle.machine.specs.Calls.{addTask, addSemaphore, addBolt, addInterrupt, declaration};
+ghost use Rattle.machine.specs.Step.{refuse, declared};
 use crate::fresh::empty_bolt;
 use crate::fresh::fresh_task;
 use layout::Head;
@@ -103,10 +102,9 @@ pub(crate) fn set_clock(k: State, t: u32) -> State
 
 // An accepted declaration; the answer's sets are empty.
 pub(crate) fn declared(k: State, h: Head, r: Running) -> Stepped
-    requires { ⌜ declares (h .mark) ≡ true ⌝ }
     requires { ⌜ r ≡ runner k ⌝ }
     requires { ⌜ ((l : List ℕ) × (formalRefusal day (k .counts) (k .begun) (callWith h l) ≡ 0)) ⌝ }
-    ensures { λ s. ⌜ ((l : List ℕ) → s ≡ accordingly day k (callWith h l)) ⌝ }
+    ensures { λ s. ⌜ ((l : List ℕ) → s ≡ declared k (declaration (h .mark) (callWith h l) k)) ⌝ }
 {
     let mark = h.mark;
     match mark {
@@ -114,6 +112,7 @@ pub(crate) fn declared(k: State, h: Head, r: Running) -> Stepped
         Mark::DS => answered(add_semaphore(k, (h.first % 65536) as u16), 0, r),
         Mark::DB => answered(add_bolt(k), 0, r),
         Mark::IT => answered(add_interrupt(k), 0, r),
-        _ => answered(set_clock(k, h.first), 0, r),
+        Mark::DC => answered(set_clock(k, h.first), 0, r),
+        _ => answered(k, 0, r),
     }
 }

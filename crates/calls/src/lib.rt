@@ -5,5 +5,6 @@ pub mod declarations;
 pub mod fresh;
 pub mod quiet;
 pub mod refusals;
+mod sorts;
 pub mod step;
 pub mod turns;

@@ -6,31 +6,29 @@ ghost use Rattle.record.specs.Reading.{callWith};
 ghost use Rattle.machine.specs.Running.{runner};
 ghost use Rattle.machine.specs.Test.{valid};
 ghost use Rattle.machine.specs.Refusals.{formalRefusal};
-ghost use Rattle.machine.specs.Step.{step};
-ghost use Rattle.calls.specs.Inner.{accordingly};
+ghost use Rattle.machine.specs.Step.{settle, step};
 use crate::changes::change_of;
 use crate::changes::marks_of;
 use crate::changes::place_of;
-use crate::clock::enabled_as;
+use crate::clock::interrupted;
 use crate::clock::ticked;
-use crate::clock::triggered;
 use crate::declarations::answered;
 use crate::declarations::declared;
 use crate::quiet::is_tick;
 use crate::quiet::quiet_tick;
-use crate::refusals::formal_refusal;
-use crate::refusals::is_declaration;
+use crate::refusals::admit;
 use crate::refusals::state_refusal;
+use crate::sorts::is_about_one;
+use crate::sorts::is_declaring;
+use crate::sorts::is_ticking;
+use crate::sorts::sort_of;
 use calendar::LAST_INSTANT;
 use layout::Head;
-use layout::Mark;
 use layout::Numbers;
 use machine::Running;
 use machine::State;
 use machine::Stepped;
 use record::Read;
-use record::reader::open;
-use record::shape::shape_at;
 use serving::ends::finished;
 use survey::look::survey;
 
@@ -39,34 +37,33 @@ fn carry_out(mut k: State, h: Head, list: Numbers, r: Running) -> Stepped
     requires { ⌜ valid day k ≡ true ⌝ }
     requires { ⌜ r ≡ runner k ⌝ }
     requires { ⌜ formalRefusal day (k .counts) (k .begun) (callWith h list) ≡ 0 ⌝ }
-    ensures { λ s. ⌜ s ≡ accordingly day k (callWith h list) ⌝ }
+    ensures { λ s. ⌜ s ≡ settle day k (callWith h list) ⌝ }
 {
     let mark = h.mark;
-    if is_declaration(mark) {
+    let sort = sort_of(mark);
+    if is_declaring(sort) {
         return declared(k, h, r);
     }
-    let i = place_of(h, r);
+    let i = place_of(sort, h, r);
     let t = k.tasks[i];
     let locks = k.locks;
     let now = k.now;
-    let number = state_refusal(h, list, r, t, locks, now);
+    let number = state_refusal(sort, h, list, r, t, locks, now);
     if number != 0 {
         return answered(k, number, r);
     }
-    match mark {
-        Mark::TG => triggered(k, h.number),
-        Mark::EI => enabled_as(k, h.number as usize, true),
-        Mark::XI => enabled_as(k, h.number as usize, false),
-        Mark::TI => ticked(k, r),
-        _ => {
-            let c = change_of(h, list, t, locks, k.clock, now);
-            let task = c.task;
-            let locks = c.locks;
-            k.tasks[i] = task;
-            k.locks = locks;
-            finished(k, marks_of(i, c))
-        }
+    if is_ticking(sort) {
+        return ticked(k, r);
     }
+    if !is_about_one(sort) {
+        return interrupted(k, h);
+    }
+    let c = change_of(sort, h, list, t, locks, k.clock, now);
+    let task = c.task;
+    let locks = c.locks;
+    k.tasks[i] = task;
+    k.locks = locks;
+    finished(k, marks_of(i, c))
 }
 
 // The step on a kernel that passes the test, r its running task.
@@ -78,19 +75,14 @@ pub fn step_on(k: State, s: &[u8], r: Running) -> Stepped
     if is_tick(s) {
         return ticked(k, r);
     }
-    let reading = open(s);
+    let counts = k.counts;
+    let reading = admit(counts, k.begun, s);
     let answer = reading.answer;
     let list = reading.list;
-    let Read::Accepted(head) = answer else {
-        return answered(k, 2, r);
-    };
-    let shaped = shape_at(s, head, list);
-    let counts = k.counts;
-    let n = formal_refusal(counts, k.begun, shaped, head, list);
-    if n != 0 {
-        return answered(k, n, r);
+    match answer {
+        Read::Refused(n) => answered(k, n, r),
+        Read::Accepted(head) => carry_out(k, head, list, r),
     }
-    carry_out(k, head, list, r)
 }
 
 // The machine's step. A tick that stirs nobody takes the short way.

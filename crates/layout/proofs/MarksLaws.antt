@@ -1,9 +1,11 @@
 -- The marks by their letters and by their places in the code's enum.
 use mathlib.Core.Path.{_≡_, refl, sym, _∙_, ap}
 use mathlib.Core.Bool.{Bool, true, false, cond, _&&_}
-use mathlib.Core.List.{List, [], _∷_}
+use mathlib.Core.Logic.{inl, inr}
+use mathlib.Core.List.{List, [], _∷_, map}
 use Prim.Native.Nat.{ℕ, zero, suc}
-use lib.ListN.{getD}
+use lib.ListN.{length, getD, drop, replicate}
+use types.Run.{OneOf}
 use lib.Dec.{eqb}
 use native.Mathlib.Omega.{arith}
 use borrow.Author.Tests.{ne-eqb, eqb-true}
@@ -11,7 +13,7 @@ use denote.Enum.Declared.{tagOf}
 use Rattle.layout.specs.declared.Mark.{Mark}
 use Rattle.layout.specs.declared.Mark.the-variants.{DT, DS, DB, IT, DC, AC, TE, SU, PR, CO, EN, RE, RQ, RL, TR, RS, FR, ET, LV, TG, EI, XI, TI}
 use Rattle.layout.specs.declared.Marked.the-variants.{Unknown, Known}
-use Rattle.layout.specs.Marks.{code, is, marks, among, markOf, form}
+use Rattle.layout.specs.Marks.{code, is, marks, among, markOf}
 use Rattle.layout.proofs.Mark as MarkT
 
 -- Each mark is the only one with its letters, and stands at its place in the list.
@@ -70,9 +72,27 @@ all-at f (m ∷ ms) e z (suc i) = all-at f ms (both (f m) (allMarks f ms) e .1) 
 pub every-mark : (f : Mark → Bool) → f DT ≡ true → allMarks f marks ≡ true → (m : Mark) → f m ≡ true
 every-mark f z e m = sym (ap f (found m .1)) ∙ all-at f marks e z (tagOf MarkT.the-type m)
 
--- The form of the mark at a place.
-pub form-at : (m : Mark) (k : ℕ) → tagOf MarkT.the-type m ≡ k → form (getD marks k DT) ≡ form m
-form-at m k e = ap (λ (i : ℕ). form (getD marks i DT)) (sym e) ∙ ap form (found m .1)
+-- ---- the arm of a match that several marks share
+
+-- Where a mark stands in the code's enum.
+abbrev place : Mark → ℕ
+place m = tagOf MarkT.the-type m
+
+same : (m n : Mark) → place m ≡ place n → n ≡ m
+same m n e = sym (found n .1) ∙ ap (λ (k : ℕ). getD marks k DT) (sym e) ∙ found m .1
+
+-- The marks of the arm all have the value a, and m is one of them.
+module _ {A : Type 0} (f : Mark → A) {a : A} (m : Mark) where
+  first : (n : Mark) (ms : List Mark) → map f (n ∷ ms) ≡ replicate (length (n ∷ ms)) a → place m ≡ place n → a ≡ f m
+  first n ms e o = sym (ap (λ (l : List A). getD l 0 a) e) ∙ ap f (same m n o)
+
+  pub alike : (ms : List Mark) → map f ms ≡ replicate (length ms) a → OneOf (map place ms) (place m) → a ≡ f m
+  alike [] e o = absurd o
+  alike (n ∷ []) e o = first n [] e o
+  alike (n ∷ k ∷ ms) e (inl o) = first n (k ∷ ms) e o
+  alike (n ∷ k ∷ ms) e (inr o) = alike (k ∷ ms) (ap (λ (l : List A). drop 1 l) e) o
+
+-- ---- letters
 
 -- A number is the letters of none of these marks: as the arms of a match leave it, behind what is known before.
 abbrev pub NoneOf : List Mark → ℕ → Type 0 → Type 0

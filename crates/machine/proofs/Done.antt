@@ -33,7 +33,7 @@ use Rattle.machine.specs.declared.Sort.the-variants.{Declaration, OneTas
 use Rattle.machine.specs.State.{taskAt, enabledAt, countOf}
 use Rattle.machine.specs.Running.{runningOf, runner, someone}
 use Rattle.machine.specs.Granting.{couldBeGranted}
-use Rattle.machine.specs.Sorts.{sortOf, declaring, declares, askedKind, givenKind, runnerAt}
+use Rattle.machine.specs.Sorts.{sortOf, declaring, declares, askedKind, staying, givenKind, naming, runnerAt}
 use Rattle.machine.specs.Work.{Work, byTurn, changed, everyTurn}
 use Rattle.machine.specs.Refusals.{startDeclared, declaredBy}
 use Rattle.machine.specs.Calls.{namedTurn, runnerTurn, asks, changeOf, trigger, interruptBy, tick, workBy, workOf}
@@ -42,7 +42,7 @@ use Rattle.machine.proofs.Below.{mostUrgent-at}
 use Rattle.machine.proofs.Facts.{Listed, TaskOk, StateOk}
 use Rattle.machine.proofs.Turns.{Good, good-end, good-prevent, good-suspend, good-continue, good-resume, good-tick, good-trigger, good-activate}
 use Rattle.machine.proofs.Passed.{Formal, formal-as, Passed, unrefused}
-use Rattle.machine.proofs.Sorts.{naming, listing, other-mark, asked-waits, given-waits, tick-mark, list-mark, list-shape}
+use Rattle.machine.proofs.Sorts.{listing, other-mark, asked-waits, given-waits, tick-mark, list-mark, list-shape}
 use Rattle.machine.proofs.Works.{oneTurn, onlyLocks, locks-alone, enabled-alone}
 use Rattle.machine.proofs.Whole.{could-free}
 
@@ -52,16 +52,6 @@ pub record Role : Type 0 where
   pub stays : Bool
   pub gives : Wait
   pub prevents : Bool
-
--- An asking call that doesn't wait is a TRY.
-abbrev pub staying : Sort → Bool
-staying Declaration = true
-staying OneTask = true
-staying TheRunner = true
-staying (ListAsked w b) = b
-staying (ListGiven w) = true
-staying AnInterrupt = true
-staying EveryTask = true
 
 abbrev pub roleOf : Sort → Bool → Role
 roleOf s p = record { asks = askedKind s; stays = staying s; gives = givenKind s; prevents = p }
@@ -233,7 +223,7 @@ module _ (day : ℕ) (isDay : IsDay day) (k : State) (h : StateOk day k) (c : Ca
   call-done d p = go (sortOf m) refl d
     where
       unprevented : naming (sortOf m) ≡ false → is m PR ≡ false
-      unprevented e = other-mark m PR refl e
+      unprevented e = other-mark naming m PR refl e
 
       go : (s : Sort) → sortOf m ≡ s → declaring s ≡ false → Does (roleOf s (is m PR)) (workBy day s k c)
       go Declaration q e = contra refl e

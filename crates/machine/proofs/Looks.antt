@@ -30,11 +30,11 @@ use Rattle.machine.specs.State.{taskAt, countOf, withState}
 use Rattle.machine.specs.Running.{urgency, runningOf, runner}
 use Rattle.machine.specs.Granting.{couldBeGranted, servable}
 use Rattle.machine.specs.Test.{taskOk, allBelow, countsOk, nobodyServable, valid}
-use Rattle.machine.specs.Sorts.{sortOf, givenKind, runnerAt, placeOf}
+use Rattle.machine.specs.Sorts.{sortOf, givenKind, naming, runnerAt, placeOf}
 use Rattle.machine.specs.Refusals.{listDeclared, declaredBy, declaredIn, formalRefusal, refusalBy, stateRefusal}
 use Rattle.machine.proofs.Urgency.{scan-same}
 use Rattle.machine.proofs.Below.{all-at}
-use Rattle.machine.proofs.Sorts.{naming, other-mark}
+use Rattle.machine.proofs.Sorts.{other-mark}
 use Rattle.machine.proofs.Passed.{refusalOf, formal, Listed, listed-task}
 
 pub count-below : (n : Counts) (w : Wait) → countOf n w ≡ below (n .semaphores) (n .bolts) w
@@ -101,7 +101,7 @@ in-parts day k = refl
 -- A call that names no task isn't refused for one.
 unlooked : (m : Mark) (c : Call) (x : Running) (l : Locks) (n : Instant) → naming (sortOf m) ≡ false → (t t′ : Task) → refusalBy m c x t l n ≡ refusalBy m c x t′ l n
 unfolding refusalBy
-unlooked m c x l n e t t′ = rw (other-mark m AC refl e, other-mark m TE refl e, other-mark m SU refl e, other-mark m CO refl e)
+unlooked m c x l n e t t′ = rw (other-mark naming m AC refl e, other-mark naming m TE refl e, other-mark naming m SU refl e, other-mark naming m CO refl e)
 
 -- ---- a kernel and one with other tables
 

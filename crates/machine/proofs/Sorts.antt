@@ -23,17 +23,7 @@ use Rattle.machine.specs.declared.Sort.{Sort}
 use Rattle.machine.specs.declared.Sort.the-variants.{Declaration, OneTask, TheRunner, ListAsked, ListGiven, AnInterrupt, EveryTask}
 use Rattle.machine.specs.Sorts.{sortOf}
 
--- The call names a task.
-abbrev pub naming : Sort → Bool
-naming Declaration = false
-naming OneTask = true
-naming TheRunner = false
-naming (ListAsked w b) = false
-naming (ListGiven w) = false
-naming AnInterrupt = false
-naming EveryTask = false
-
--- It has a list.
+-- The call has a list.
 abbrev pub listing : Sort → Bool
 listing Declaration = false
 listing OneTask = false
@@ -43,10 +33,10 @@ listing (ListGiven w) = true
 listing AnInterrupt = false
 listing EveryTask = false
 
--- A mark that names a task is none of those that don't.
-pub other-mark : (m n : Mark) → naming (sortOf n) ≡ true → naming (sortOf m) ≡ false → is m n ≡ false
-other-mark m n a b =
-    byBool (is m n) (λ e. contra (ap (λ (x : Mark). naming (sortOf x)) (is-mark m n e) ∙ a) b) (λ e. e)
+-- A mark is none of those whose sort differs in p.
+pub other-mark : (p : Sort → Bool) (m n : Mark) → p (sortOf n) ≡ true → p (sortOf m) ≡ false → is m n ≡ false
+other-mark p m n a b =
+    byBool (is m n) (λ e. contra (ap (λ (x : Mark). p (sortOf x)) (is-mark m n e) ∙ a) b) (λ e. e)
 
 -- The kinds of lists are kinds of waits, and TI alone is about every task.
 kindOk : Sort → Mark → Bool

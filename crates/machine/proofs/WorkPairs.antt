@@ -61,7 +61,7 @@ unfolding activateTurn
 no-wait-activate day clock n h t =
     byBool (eqb (h .kind) 0) (λ e. rw e (no-wait-due t _)) (λ e. rw e (no-wait-schedule t n _))
 
-no-wait-named : (day clock : ℕ) (n : Instant) (m : Mark) (h : Head) (t : Task) → NoNewWait t (namedTurn day clock n m h t .task)
+pub no-wait-named : (day clock : ℕ) (n : Instant) (m : Mark) (h : Head) (t : Task) → NoNewWait t (namedTurn day clock n m h t .task)
 unfolding namedTurn
 no-wait-named day clock n m h t =
     byBool (bears m AC) (λ e. rw e (no-wait-activate day clock n h t))
@@ -69,7 +69,7 @@ no-wait-named day clock n m h t =
     (λ e. rw e (byBool (bears m SU) (λ e. rw e (no-wait-suspend t))
     (λ e. rw e (byBool (bears m PR) (λ e. rw e (no-wait-prevent t)) (λ e. rw e (no-wait-continue t (h .priority)))))))))
 
-no-wait-runner : (n : Instant) (m : Mark) (h : Head) (t : Task) → NoNewWait t (runnerTurn n m h t .task)
+pub no-wait-runner : (n : Instant) (m : Mark) (h : Head) (t : Task) → NoNewWait t (runnerTurn n m h t .task)
 unfolding runnerTurn
 no-wait-runner n m h t = byBool (bears m RE) (λ e. rw e (no-wait-resume t _)) (λ e. rw e (no-wait-end t))
 

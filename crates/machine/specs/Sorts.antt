@@ -1,5 +1,5 @@
 -- The sort of each mark: what a call is about.
-use mathlib.Core.Bool.{Bool, true, false}
+use mathlib.Core.Bool.{Bool, true, false, cond}
 use Prim.Native.Nat.{ℕ}
 use Rattle.layout.specs.declared.Head.{Head}
 use Rattle.layout.specs.declared.Mark.{Mark}
@@ -69,6 +69,16 @@ askedKind (ListGiven w) = Nothing
 askedKind AnInterrupt = Nothing
 askedKind EveryTask = Nothing
 
+-- A TRY doesn't wait for what it asks for.
+abbrev pub staying : Sort → Bool
+staying Declaration = true
+staying OneTask = true
+staying TheRunner = true
+staying (ListAsked w b) = b
+staying (ListGiven w) = true
+staying AnInterrupt = true
+staying EveryTask = true
+
 -- What a call gives back.
 abbrev pub givenKind : Sort → Wait
 givenKind Declaration = Nothing
@@ -86,12 +96,15 @@ abbrev pub runnerAt : Running → ℕ
 runnerAt Idle = 0
 runnerAt (Runs i) = i
 
+abbrev pub naming : Sort → Bool
+naming Declaration = false
+naming OneTask = true
+naming TheRunner = false
+naming (ListAsked w b) = false
+naming (ListGiven w) = false
+naming AnInterrupt = false
+naming EveryTask = false
+
 -- The task that a call names, else the running one.
 abbrev pub placeOf : Sort → Head → Running → ℕ
-placeOf Declaration h r = runnerAt r
-placeOf OneTask h r = h .number
-placeOf TheRunner h r = runnerAt r
-placeOf (ListAsked w b) h r = runnerAt r
-placeOf (ListGiven w) h r = runnerAt r
-placeOf AnInterrupt h r = runnerAt r
-placeOf EveryTask h r = runnerAt r
+placeOf s h r = cond (naming s) (h .number) (runnerAt r)

@@ -18,7 +18,8 @@ use layout::fields::letters_at;
 use layout::fields::list_at;
 use layout::marks::mark_of;
 
-pub(crate) fn refuse(n: u8) -> Reading
+// A refusal hands back a list of zeros.
+pub fn refuse(n: u8) -> Reading
     ensures { λ r. ⌜ r ≡ refused n ⌝ }
 {
     Reading {

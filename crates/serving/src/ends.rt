@@ -6,7 +6,7 @@ ghost use Rattle.machine.specs.Granting.{servable};
 ghost use Rattle.machine.specs.Serving.{nextServed, grantTo};
 ghost use Rattle.machine.specs.Running.{someone};
 ghost use Rattle.machine.specs.Step.{finish};
-ghost use Rattle.machine.specs.Work.{noWork};
+ghost use Rattle.machine.specs.Work.{onlyEnabled};
 ghost use Rattle.survey.specs.Looks.{waitsOk};
 ghost use Rattle.serving.specs.Ends.{served, withServed, servedOf, workHere};
 use lock::is_waiting;
@@ -200,7 +200,7 @@ pub fn only_granted(granted: u32) -> Marks
 // A call without effect ends.
 pub fn done(k: State) -> Stepped
     requires { ⌜ waitsOk k ≡ true ⌝ }
-    ensures { λ s. ⌜ s ≡ finish k (noWork k) ⌝ }
+    ensures { λ s. ⌜ s ≡ finish k (onlyEnabled k (k .enabled)) ⌝ }
 {
     finished(k, only_granted(0))
 }

@@ -1,7 +1,10 @@
--- Arm by arm; an arm of several marks by their places.
+-- Arm by arm.
 use borrow.Author.Needs.{needs}
-use mathlib.Core.Logic.{⊎-elim}
-use Rattle.layout.proofs.MarksLaws.{form-at}
+use mathlib.Core.Path.{refl}
+use mathlib.Core.List.{[], _∷_}
+use Rattle.layout.specs.Marks.{form}
+use Rattle.layout.specs.declared.Mark.the-variants.{DB, IT, TE, SU, PR, EN, RQ, RL, RS, FR, ET, LV, TG, EI, XI, TI}
+use Rattle.layout.proofs.MarksLaws.{alike}
 use Rattle.layout.proofs.marks.form_of.Statement.{statement}
 use Rattle.layout.proofs.marks.form_of.Tie as tie
 
@@ -33,7 +36,7 @@ returns-2 : tie.Need-returns-2
 returns-2 c = rw (c .enum-told2 .given .1)
 
 returns-3 : tie.Need-returns-3
-returns-3 c = let f = form-at (c .before .args .mark) in ⊎-elim (f 2) (⊎-elim (f 3) (⊎-elim (f 10) (f 22))) (c .match .keys3)
+returns-3 c = alike form (c .before .args .mark) (DB ∷ IT ∷ EN ∷ TI ∷ []) refl (c .match .keys3)
 
 returns-4 : tie.Need-returns-4
 returns-4 c = rw (c .enum-told3 .given .1)
@@ -42,7 +45,7 @@ returns-5 : tie.Need-returns-5
 returns-5 c = rw (c .enum-told4 .given .1)
 
 returns-6 : tie.Need-returns-6
-returns-6 c = let f = form-at (c .before .args .mark) in ⊎-elim (f 6) (⊎-elim (f 7) (⊎-elim (f 8) (⊎-elim (f 19) (⊎-elim (f 20) (f 21))))) (c .match .keys6)
+returns-6 c = alike form (c .before .args .mark) (TE ∷ SU ∷ PR ∷ TG ∷ EI ∷ XI ∷ []) refl (c .match .keys6)
 
 returns-7 : tie.Need-returns-7
 returns-7 c = rw (c .enum-told5 .given .1)
@@ -51,7 +54,7 @@ returns-8 : tie.Need-returns-8
 returns-8 c = rw (c .enum-told6 .given .1)
 
 returns-9 : tie.Need-returns-9
-returns-9 c = let f = form-at (c .before .args .mark) in ⊎-elim (f 12) (⊎-elim (f 13) (⊎-elim (f 15) (⊎-elim (f 16) (⊎-elim (f 17) (f 18))))) (c .match .keys9)
+returns-9 c = alike form (c .before .args .mark) (RQ ∷ RL ∷ RS ∷ FR ∷ ET ∷ LV ∷ []) refl (c .match .keys9)
 
 returns-10 : tie.Need-returns-10
 returns-10 c = rw (c .enum-told7 .given .1)

@@ -1,7 +1,7 @@
 -- Nothing was done and nobody is marked.
 use borrow.Author.Needs.{needs}
 use mathlib.Core.Path.{ap, _∙_}
-use Rattle.machine.specs.Work.{onlyLocks}
+use Rattle.machine.specs.Work.{onlyEnabled}
 use Rattle.machine.specs.Step.{finish}
 use Rattle.serving.specs.Ends.{workHere}
 use Rattle.serving.proofs.ends.done.Statement.{statement}
@@ -14,7 +14,7 @@ finished-requires : tie.Need-finished-requires
 finished-requires c κs = search needs
 
 returns : tie.Need-returns
-unfolding onlyLocks
+unfolding onlyEnabled
 returns c =
     let k = c .before .before .args .k in
     c .finished .ensures ∙ ap (λ m. finish k (workHere k m)) (c .before .only-granted .ensures)

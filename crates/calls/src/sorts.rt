@@ -1,0 +1,84 @@
+// What a mark is about.
+ghost use mathlib.Core.Path.{_≡_};
+ghost use Rattle.machine.specs.Sorts.{sortOf, declaring, naming};
+ghost use Rattle.calls.specs.Inner.{aboutOne, ticking};
+use layout::Mark;
+use lock::Wait;
+use machine::Sort;
+
+pub(crate) fn sort_of(mark: Mark) -> Sort
+    ensures { λ s. ⌜ s ≡ sortOf mark ⌝ }
+{
+    match mark {
+        Mark::DT | Mark::DS | Mark::DB | Mark::IT | Mark::DC => Sort::Declaration,
+        Mark::AC | Mark::TE | Mark::SU | Mark::PR | Mark::CO => Sort::OneTask,
+        Mark::EN | Mark::RE => Sort::TheRunner,
+        Mark::RQ => Sort::ListAsked(Wait::Request, true),
+        Mark::RL => Sort::ListGiven(Wait::Request),
+        Mark::TR => Sort::ListAsked(Wait::Request, false),
+        Mark::RS => Sort::ListAsked(Wait::Reserve, true),
+        Mark::FR => Sort::ListGiven(Wait::Reserve),
+        Mark::ET => Sort::ListAsked(Wait::Enter, true),
+        Mark::LV => Sort::ListGiven(Wait::Enter),
+        Mark::TG | Mark::EI | Mark::XI => Sort::AnInterrupt,
+        Mark::TI => Sort::EveryTask,
+    }
+}
+
+pub(crate) fn is_declaring(sort: Sort) -> bool
+    ensures { λ r. ⌜ r ≡ declaring sort ⌝ }
+{
+    match sort {
+        Sort::Declaration => true,
+        Sort::OneTask => false,
+        Sort::TheRunner => false,
+        Sort::ListAsked(_, _) => false,
+        Sort::ListGiven(_) => false,
+        Sort::AnInterrupt => false,
+        Sort::EveryTask => false,
+    }
+}
+
+// One task and the locks.
+pub(crate) fn is_about_one(sort: Sort) -> bool
+    ensures { λ r. ⌜ r ≡ aboutOne sort ⌝ }
+{
+    match sort {
+        Sort::Declaration => false,
+        Sort::OneTask => true,
+        Sort::TheRunner => true,
+        Sort::ListAsked(_, _) => true,
+        Sort::ListGiven(_) => true,
+        Sort::AnInterrupt => false,
+        Sort::EveryTask => false,
+    }
+}
+
+pub(crate) fn is_ticking(sort: Sort) -> bool
+    ensures { λ r. ⌜ r ≡ ticking sort ⌝ }
+{
+    match sort {
+        Sort::Declaration => false,
+        Sort::OneTask => false,
+        Sort::TheRunner => false,
+        Sort::ListAsked(_, _) => false,
+        Sort::ListGiven(_) => false,
+        Sort::AnInterrupt => false,
+        Sort::EveryTask => true,
+    }
+}
+
+// The task that the call names.
+pub(crate) fn is_naming(sort: Sort) -> bool
+    ensures { λ r. ⌜ r ≡ naming sort ⌝ }
+{
+    match sort {
+        Sort::Declaration => false,
+        Sort::OneTask => true,
+        Sort::TheRunner => false,
+        Sort::ListAsked(_, _) => false,
+        Sort::ListGiven(_) => false,
+        Sort::AnInterrupt => false,
+        Sort::EveryTask => false,
+    }
+}
