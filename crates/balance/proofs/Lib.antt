@@ -5,3 +5,4 @@ pub mod Serving
 pub mod Steps
 pub mod Balanced
 pub mod Fresh
+pub mod Presets
