@@ -6,3 +6,5 @@ pub mod Steps
 pub mod Balanced
 pub mod Fresh
 pub mod Presets
+pub mod Begun
+pub mod Parted

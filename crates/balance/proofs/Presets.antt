@@ -1,6 +1,6 @@
 -- A semaphore starts with the preset of the DS that declared it.
 use mathlib.Core.Path.{_≡_, refl, sym, ap, _∙_}
-use mathlib.Core.Bool.{true, false, not, cond, _&&_}
+use mathlib.Core.Bool.{true, not, cond, _&&_}
 use mathlib.Core.List.{List, [], _∷_, _++_, append-nil, append-assoc}
 use Prim.Native.Nat.{ℕ, suc}
 use native.Mathlib.Nat.{not-suc-le-zero}
