@@ -10,20 +10,24 @@ use Rattle.record.specs.Reading.{callWith, opened}
 use Rattle.record.specs.declared.Read.{Read}
 use Rattle.record.specs.declared.Read.the-variants.{Refused, Accepted}
 use Rattle.layout.specs.declared.Mark.the-variants.{DT, DB, IT}
+use Rattle.layout.specs.declared.Head.{Head}
 use Rattle.layout.specs.declared.Call.{Call}
 use Rattle.lock.specs.Locks.{emptyBolt, boltAt}
 use Rattle.lock.proofs.Bools.{byBool, byEq, contra, both}
 use Rattle.lock.proofs.Levels.{bolt-same, bolt-other}
 use Rattle.task.specs.State.{noTask}
 use Rattle.machine.specs.declared.State.{State}
+use Rattle.machine.specs.declared.Stepped.{Stepped}
 use Rattle.machine.specs.State.{taskAt, enabledAt, freshTask, nothing, withClock}
+use Rattle.machine.specs.Running.{runner}
 use Rattle.machine.specs.Sorts.{declares}
 use Rattle.machine.specs.Calls.{addTask, addSemaphore, addBolt, addInterrupt, declaration as declaredAs}
-use Rattle.machine.specs.Step.{refuse, declared, orRefuse, carryOut, carryOn, step}
+use Rattle.machine.specs.Step.{refuse, declared, orRefuse, carryOut, step}
 use Rattle.machine.specs.Log.{final, log}
 use Rattle.machine.specs.Invariants.{IsDay}
 use Rattle.machine.proofs.Facts.{StateOk, bounded-of, passes-of-ok}
 use Rattle.machine.proofs.Passed.{refusalOf, Passed, passed, as-mark, room-task, room-bolt, room-interrupt}
+use Rattle.machine.proofs.Opened.{opened-refused}
 use Rattle.machine.proofs.Cases.{done-number, declaration-cases, carried-by, stepOpened, step-on}
 use Rattle.machine.proofs.Invariants.{step-ok}
 use Rattle.balance.specs.Counting.{accepted}
@@ -96,25 +100,34 @@ module _ (day : ℕ) (k : State) (h : StateOk day k) (y : Young k) (c : Call) wh
   young-declared p =
       declaration-cases (c .head .mark) c k Young (λ e. young-DT (as-mark e p)) (λ e. young-DS) (λ e. young-DB (as-mark e p)) (λ e. young-IT (as-mark e p)) (λ e. young-DC) y
 
-  young-carried : not (accepted (carryOn day k c .answer) && not (declares (c .head .mark))) ≡ true → Young (carryOn day k c .state)
-  young-carried q = let by = carried-by day k c in rw by (go (refusalOf day k c) refl (rw by at q))
-    where
-      go : (n : ℕ) → refusalOf day k c ≡ n → not (accepted (orRefuse k n (carryOut day k c) .answer) && not (declares (c .head .mark))) ≡ true → Young (orRefuse k n (carryOut day k c) .state)
-      go zero e z =
-          byBool (declares (c .head .mark)) (λ d. unfold carryOut declared in rw d (young-declared (passed day k c e)))
-          (λ d. contra z (rw (done-number day k c, d)))
-      go (suc n) e z = unfold refuse in y
+-- ---- a record that is no accepted call
 
-module _ (day : ℕ) (isDay : IsDay day) where
-  young-step : (k : State) → StateOk day k → Young k → (s : List ℕ) → not (accepted (step day k s .answer) && not (declaration (opened s .answer))) ≡ true → Young (step day k s .state)
-  young-step k h y s q = rw on (go (opened s .answer) (rw on at q))
+-- It is refused, or an accepted declaration.
+module _ (day : ℕ) (k : State) (h : StateOk day k) (s : List ℕ) (P : Read → Stepped → Type 0)
+    (refused : (r : Read) (n : ℕ) → P r (refuse k (suc n) (runner k)))
+    (done : (d : Head) (l : List ℕ) → Passed day (d .mark) k (callWith d l) → P (Accepted d) (declared k (declaredAs (d .mark) (callWith d l) k))) where
+  pub no-call : not (accepted (step day k s .answer) && not (declaration (opened s .answer))) ≡ true → P (opened s .answer) (step day k s)
+  no-call q = rw on (go (opened s .answer) refl (rw on at q))
     where
       on : step day k s ≡ stepOpened day k (opened s .answer) (opened s .list)
       on = step-on day k s (passes-of-ok day k h .tested)
 
-      go : (r : Read) → not (accepted (stepOpened day k r (opened s .list) .answer) && not (declaration r)) ≡ true → Young (stepOpened day k r (opened s .list) .state)
-      go (Refused n) z = unfold refuse in y
-      go (Accepted d) z = young-carried day k h y (callWith d (opened s .list)) z
+      carried : (d : Head) (n : ℕ) → let c = callWith d (opened s .list) in
+          refusalOf day k c ≡ n → not (accepted (orRefuse k n (carryOut day k c) .answer) && not (declares (d .mark))) ≡ true
+          → P (Accepted d) (orRefuse k n (carryOut day k c))
+      carried d zero e z =
+          let c = callWith d (opened s .list) in
+          byBool (declares (d .mark)) (λ m. unfold carryOut in rw m (done d (opened s .list) (passed day k c e))) (λ m. contra z (rw (done-number day k c, m)))
+      carried d (suc n) e z = refused (Accepted d) n
+
+      go : (r : Read) → opened s .answer ≡ r → not (accepted (stepOpened day k r (opened s .list) .answer) && not (declaration r)) ≡ true → P r (stepOpened day k r (opened s .list))
+      go (Refused n) e z = rw (opened-refused s n e) (refused (Refused 2) 1)
+      go (Accepted d) e z = let by = carried-by day k (callWith d (opened s .list)) in rw by (carried d _ refl (rw by at z))
+
+module _ (day : ℕ) (isDay : IsDay day) where
+  young-step : (k : State) → StateOk day k → Young k → (s : List ℕ) → not (accepted (step day k s .answer) && not (declaration (opened s .answer))) ≡ true → Young (step day k s .state)
+  young-step k h y s =
+      no-call day k h s (λ r z. Young (z .state)) (λ r n. unfold refuse in y) (λ d l p. unfold declared in young-declared day k h y (callWith d l) p)
 
   young-all : (rs : List (List ℕ)) (k : State) → StateOk day k → Young k → AllOctets rs → without acceptedCall (log day k rs) ≡ true → StateOk day (final day k rs) × Young (final day k rs)
   unfolding AllOctets without log final
@@ -125,7 +138,7 @@ module _ (day : ℕ) (isDay : IsDay day) where
 
   -- ---- nothing declared
 
-  nothing-ok : StateOk day nothing
+  pub nothing-ok : StateOk day nothing
   unfolding nothing
   nothing-ok =
       record {

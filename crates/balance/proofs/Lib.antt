@@ -5,3 +5,6 @@ pub mod Serving
 pub mod Steps
 pub mod Balanced
 pub mod Fresh
+pub mod Presets
+pub mod Begun
+pub mod Parted

@@ -1,8 +1,9 @@
--- The balance, demand 3: one statement about every list of records from a fresh kernel. Proved in proofs/Balanced.antt.
+-- The balance, demand 3: one statement about every list of records from a fresh kernel. Proved in proofs/Balanced.antt
+-- and proofs/Parted.antt.
 use mathlib.Core.Path.{_≡_}
 use mathlib.Core.Logic.{_≢_}
 use mathlib.Core.Bool.{Bool, true, false, _&&_, _||_}
-use mathlib.Core.List.{List, [], _∷_}
+use mathlib.Core.List.{List, [], _∷_, _++_}
 use Prim.Native.Nat.{ℕ, _+_, _<_, _≤_, _^_}
 use lib.Dec.{eqb}
 use Rattle.layout.specs.Marks.{is}
@@ -14,7 +15,7 @@ use Rattle.lock.specs.Locks.{bit, waiting, level}
 use Rattle.lock.specs.declared.Wait.the-variants.{Request, Reserve, Enter}
 use Rattle.task.specs.State.{isKept}
 use Rattle.machine.specs.Sets.{has}
-use Rattle.machine.specs.State.{taskAt}
+use Rattle.machine.specs.State.{taskAt, nothing}
 use Rattle.machine.specs.Granting.{servable}
 use Rattle.machine.specs.Test.{valid}
 use Rattle.machine.specs.Step.{step}
@@ -24,7 +25,7 @@ use Rattle.machine.specs.declared.State.{State}
 use Rattle.machine.specs.declared.Answer.{Answer}
 use Rattle.machine.specs.declared.Running.the-variants.{Idle}
 use Rattle.balance.specs.Counting.{count, accepted, returned, granted, noneOpen, GrantsOpen, openFrom}
-use Rattle.balance.specs.Fresh.{AllOctets, Fresh, acceptedDeclaration, without}
+use Rattle.balance.specs.Fresh.{AllOctets, Fresh, acceptedDeclaration, acceptedCall, without, presets, Preset}
 
 -- ---- sums over the log, from the fresh kernel k to the last kernel z
 
@@ -101,3 +102,24 @@ abbrev pub Balance : Type 0
 Balance =
     (day : ℕ) → IsDay day → (k : State) → Fresh day k → (rs : List (List ℕ)) → AllOctets rs
     → without acceptedDeclaration (log day k rs) ≡ true → Balanced day k rs
+
+-- ---- from nothing on
+
+-- A first part declares and a second one works: no call is accepted in the first, no declaration in the second.
+pub record Parted (day : ℕ) (rs : List (List ℕ)) : Type 0 where
+  pub declaring : List (List ℕ)
+  pub working : List (List ℕ)
+  pub parts : rs ≡ declaring ++ working
+  pub entries : log day nothing rs ≡ log day nothing declaring ++ log day (final day nothing declaring) working
+  pub last : final day nothing rs ≡ final day (final day nothing declaring) working
+  pub no-call : without acceptedCall (log day nothing declaring) ≡ true
+  pub no-declaration : without acceptedDeclaration (log day (final day nothing declaring) working) ≡ true
+  -- the first leaves a fresh kernel with its presets
+  pub fresh : Fresh day (final day nothing declaring)
+  pub preset : Preset (presets (log day nothing declaring)) (final day nothing declaring)
+  -- the second balances
+  pub balanced : Balanced day (final day nothing declaring) working
+
+-- Whatever the records.
+abbrev pub AllParted : Type 0
+AllParted = (day : ℕ) → IsDay day → (rs : List (List ℕ)) → AllOctets rs → Parted day rs

@@ -1,13 +1,17 @@
 -- Fresh kernels: nothing declared, or accepted declarations only.
 use mathlib.Core.Path.{_≡_}
-use mathlib.Core.Bool.{Bool, true, false, not, _&&_}
-use mathlib.Core.List.{List, [], _∷_}
+use mathlib.Core.Bool.{Bool, true, false, not, cond, _&&_}
+use mathlib.Core.List.{List, [], _∷_, _++_}
 use Prim.Native.Nat.{ℕ, _<_}
+use lib.ListN.{length, getD}
+use Rattle.layout.specs.Marks.{is}
 use Rattle.record.specs.Reading.{opened}
 use Rattle.layout.specs.Fields.{Octets}
+use Rattle.layout.specs.declared.Mark.the-variants.{DS}
 use Rattle.record.specs.declared.Read.{Read}
 use Rattle.record.specs.declared.Read.the-variants.{Refused, Accepted}
-use Rattle.lock.specs.Locks.{emptyBolt, boltAt}
+use Rattle.lock.specs.Locks.{emptyBolt, boltAt, level}
+use Rattle.lock.specs.declared.Wait.the-variants.{Request}
 use Rattle.machine.specs.State.{taskAt, enabledAt, freshTask, nothing}
 use Rattle.machine.specs.Test.{valid}
 use Rattle.machine.specs.Sorts.{declares}
@@ -51,3 +55,26 @@ abbrev pub DeclaredIsFresh : Type 0
 DeclaredIsFresh =
     (day : ℕ) → IsDay day → (rs : List (List ℕ)) → AllOctets rs → without acceptedCall (log day nothing rs) ≡ true
     → Fresh day (final day nothing rs)
+
+-- ---- presets
+
+-- The first time of a DS.
+abbrev pub presetIn : Read → List ℕ
+presetIn (Refused n) = []
+presetIn (Accepted h) = cond (is (h .mark) DS) (h .first ∷ []) []
+
+-- Those of the accepted DS of a log, in order.
+unfoldable pub presets : List Entry → List ℕ
+presets [] = []
+presets (e ∷ es) = cond (accepted (e .answer)) (presetIn (opened (e .bytes) .answer)) [] ++ presets es
+
+-- As many semaphores are declared, and the value of each is its own.
+pub record Preset (vs : List ℕ) (k : State) : Type 0 where
+  pub count : k .counts .semaphores ≡ length vs
+  pub value : (s : ℕ) → s < k .counts .semaphores → level Request (k .locks) s ≡ getD vs s 0
+
+-- In the fresh kernel each semaphore has the preset of the DS that declared it.
+abbrev pub PresetsAreKept : Type 0
+PresetsAreKept =
+    (day : ℕ) → IsDay day → (rs : List (List ℕ)) → AllOctets rs → without acceptedCall (log day nothing rs) ≡ true
+    → Preset (presets (log day nothing rs)) (final day nothing rs)

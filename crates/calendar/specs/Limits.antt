@@ -1,6 +1,6 @@
 -- The limits of document 01, "What a kernel holds", each named once. All times are counted in ticks of 1 ms.
 use mathlib.Core.Bool.{Bool, _&&_}
-use Prim.Native.Nat.{ℕ, _^_}
+use Prim.Native.Nat.{ℕ, _/_, _^_}
 use lib.Dec.{leb, ltb}
 
 -- one tick, by which the present instant grows
@@ -10,6 +10,10 @@ tick = 1
 -- the ticks of a day
 abbrev pub day : ℕ
 day = 86400000
+
+-- the ticks of an hour
+abbrev pub hour : ℕ
+hour = day / 24
 
 -- the longest duration and the longest period
 abbrev pub longestDuration : ℕ

@@ -9,7 +9,7 @@ use Rattle.calendar.specs.declared.End.{End}
 use Rattle.calendar.specs.declared.End.the-variants.{Open, Until}
 use Rattle.calendar.specs.declared.Moment.{Moment}
 use Rattle.calendar.specs.declared.Moment.the-variants.{Never, At as Then}
-use Rattle.calendar.specs.Limits.{day}
+use Rattle.calendar.specs.Limits.{day, hour}
 use Rattle.calendar.specs.Times.{instant}
 use Rattle.calendar.specs.Dues.{firstDue, lastAllowed, nextDue}
 
@@ -25,15 +25,12 @@ dues clock n start period end =
     let first = firstDue day start clock n in
     following 1000 period (lastAllowed day end clock first) (Then first)
 
-abbrev pub hour : ℕ
-hour = 3600000
-
 pub record MarkedTable : Type 0 where
   -- M2: 12:00, AT 22:00 ALL 2 h UNTIL 2:00
-  pub m2 : dues (12 * hour) (instant 0) (At (22 * hour)) (2 * hour) (Until (2 * hour)) ≡ 36000000 ∷ 43200000 ∷ 50400000 ∷ []
+  pub m2 : dues (12 * hour) (instant 0) (At (22 * hour)) (2 * hour) (Until (2 * hour)) ≡ 10 * hour ∷ 12 * hour ∷ 14 * hour ∷ []
   -- M3: the same at 23:00
-  pub m3 : dues (23 * hour) (instant 0) (At (22 * hour)) (2 * hour) (Until (2 * hour)) ≡ 82800000 ∷ 90000000 ∷ 97200000 ∷ []
+  pub m3 : dues (23 * hour) (instant 0) (At (22 * hour)) (2 * hour) (Until (2 * hour)) ≡ 23 * hour ∷ 25 * hour ∷ 27 * hour ∷ []
   -- M4: AT the present time, an hour after 12:00, is due at once
-  pub m4 : dues (12 * hour) (instant hour) (At (13 * hour)) 0 Open ≡ 3600000 ∷ []
+  pub m4 : dues (12 * hour) (instant hour) (At (13 * hour)) 0 Open ≡ hour ∷ []
   -- M4: UNTIL the time of the first gives one due
-  pub m4End : dues (12 * hour) (instant 0) (At (22 * hour)) (2 * hour) (Until (22 * hour)) ≡ 36000000 ∷ []
+  pub m4End : dues (12 * hour) (instant 0) (At (22 * hour)) (2 * hour) (Until (22 * hour)) ≡ 10 * hour ∷ []

@@ -54,7 +54,7 @@ module _ (day : ℕ) (k : State) (h : Head) (l : List ℕ) where
     pub preset-same : h .mark ≡ DS → h .first % 65536 ≡ h .first
     unfolding ranged
     preset-same e =
-        let g = formal-as {day} {k .counts} {k .begun} {call} e past .formed in
+        let g = formal-as {day = day} {n = k .counts} {begun = k .begun} {c = call} e past .formed in
         let b = both (cleanNames (uses Preset h) call) (cleanStart (uses Preset h) h && ranged Preset h) g .1 in
         let m = leb-true (h .first) mostValue (both (cleanStart (uses Preset h) h) (ranged Preset h) b .1) in
         omega (arith, m)

@@ -1,46 +1,45 @@
 -- What the code hands back is the machine's log and last kernel, so the machine's balance is the code's.
-use mathlib.Core.Path.{_≡_, refl, ap, _∙_}
-use mathlib.Core.Bool.{Bool, true, false, not, _&&_}
+use mathlib.Core.Path.{_≡_, refl, sym, ap, _∙_}
 use mathlib.Core.List.{List, [], _∷_, _++_}
+use mathlib.Core.Logic.{inl, inr}
 use Prim.Native.Nat.{ℕ}
+use lib.ListN.{length}
 use native.Mathlib.Omega.{arith}
 use Rattle.calendar.specs.Limits.{day}
-use Rattle.layout.specs.Fields.{Octets}
-use Rattle.record.specs.Reading.{opened}
-use Rattle.lock.proofs.Bools.{byBool, and-both, not-of-false}
 use Rattle.machine.specs.State.{nothing}
 use Rattle.machine.specs.Step.{step}
 use Rattle.machine.specs.Log.{final, log}
 use Rattle.machine.specs.Invariants.{IsDay}
-use Rattle.machine.proofs.Facts.{StateOk, ok-of-passes}
-use Rattle.machine.proofs.Invariants.{step-ok}
-use Rattle.balance.specs.Counting.{accepted}
-use Rattle.balance.specs.Fresh.{AllOctets, Fresh, declaration, acceptedDeclaration, acceptedCall, without}
-use Rattle.balance.specs.Balance.{AtEachRecord}
+use Rattle.machine.proofs.Joined.{step-is-carry}
+use Rattle.balance.specs.Balance.{AtEachRecord, Balanced, Parted}
 use Rattle.balance.proofs.Balanced.{balance}
-use Rattle.balance.proofs.Fresh.{declared-is-fresh}
+use Rattle.balance.proofs.Parted.{all-parted}
 use Rattle.kernel.specs.Reply.{reply}
 use Rattle.kernel.specs.declared.Kernel.{Kernel}
 use Rattle.kernel.specs.declared.Reply.{Reply}
-use Rattle.delivery.specs.Delivered.{HandedFresh, Use, Promised, Handed, records, AnyRecords, entry, answers, last, AtEachUse, CodeBalances, Delivered, FreshDelivers}
-use Rattle.delivery.proofs.Begun.{step-begins, begun-declares-none}
+use Rattle.delivery.specs.Delivered.{HandedFresh, Use, Promised, Handed, records, AnyRecords, answers, last, CodeIsMachine, AtEachUse, CodeBalanced, CodeBalances, Delivered, FreshDelivers}
+use Rattle.delivery.proofs.Methods.{method-carries}
 
-isDay : IsDay day
+pub isDay : IsDay day
 isDay = record { some = omega arith; room = omega arith }
 
 -- ---- one use is the machine's step
 
-module _ (a : Kernel) (u : Use) (p : Promised a u) where
-  replied : u .reply ≡ reply (step day (a .state) (u .bytes))
-  replied = p .learnt ∙ ap (λ (r : List ℕ). reply (step day (a .state) r)) (p .refers)
+replied : (a : Kernel) (u : Use) → Promised a u → u .reply ≡ reply (step day (a .state) (u .bytes))
+replied a u (inl p) = p .learnt ∙ ap (λ (r : List ℕ). reply (step day (a .state) r)) (p .refers)
+replied a u (inr p) =
+    method-carries a (p .learnt)
+    ∙ ap reply (sym (step-is-carry day (a .state) (p .call) (p .four)))
+    ∙ ap (λ (r : List ℕ). reply (step day (a .state) r)) (p .stands)
 
+module _ (a : Kernel) (u : Use) (p : Promised a u) where
   next-state : u .reply .kernel .state ≡ step day (a .state) (u .bytes) .state
   unfolding reply
-  next-state = ap (λ (r : Reply). r .kernel .state) replied
+  next-state = ap (λ (r : Reply). r .kernel .state) (replied a u p)
 
   answered : u .reply .answer ≡ step day (a .state) (u .bytes) .answer
   unfolding reply
-  answered = ap (λ (r : Reply). r .answer) replied
+  answered = ap (λ (r : Reply). r .answer) (replied a u p)
 
 -- ---- any records
 
@@ -48,7 +47,7 @@ abbrev used : Kernel → List ℕ → Use
 used a r = record { bytes = r; reply = reply (step day (a .state) r) }
 
 used-promised : (a : Kernel) (r : List ℕ) → Promised a (used a r)
-used-promised a r = record { lifetime = []; slice = record { ptr = (0, 0); name = 0; now = r }; refers = refl; learnt = refl }
+used-promised a r = inl (record { lifetime = []; slice = record { ptr = (0, 0); name = 0; now = r }; refers = refl; learnt = refl })
 
 pub any-records : AnyRecords
 unfolding Handed records
@@ -70,130 +69,86 @@ unfolding Handed last records final
 as-final [] a h = refl
 as-final (u ∷ us) a h = rw (as-final us (u .reply .kernel) (h .1), next-state a u (h .0))
 
+pub code-is-machine : CodeIsMachine
+code-is-machine a us h = record { entries = as-log us a h; state = as-final us a h }
+
 at-each : (us : List Use) (a : Kernel) → Handed a us → AtEachRecord day (a .state) (records us) → AtEachUse a us
 unfolding Handed records AtEachRecord AtEachUse
 at-each [] a h e = tt
 at-each (u ∷ us) a h e =
     (rw (next-state a u (h .0), answered a u (h .0)) (e .0), at-each us (u .reply .kernel) (h .1) (rw (next-state a u (h .0)) (e .1)))
 
-pub code-balances : CodeBalances
-code-balances a f us h o q =
-    let b = balance day isDay (a .state) f (records us) o (rw (← as-log us a h) q) in
+as-balanced : (a : Kernel) (us : List Use) → Handed a us → Balanced day (a .state) (records us) → CodeBalanced a us
+as-balanced a us h b =
     record {
+      machine = code-is-machine a us h;
       sums = rw (as-log us a h, as-final us a h) (b .sums);
       each = at-each us a h (b .each);
       last-tested = rw (as-final us a h) (b .last-tested);
     }
 
--- ---- a list of uses parts where the first call is accepted
+pub code-balances : CodeBalances
+code-balances a f us h o q = as-balanced a us h (balance day isDay (a .state) f (records us) o (rw (← as-log us a h) q))
 
-record Parts (a : Kernel) (us : List Use) : Type 0 where
+-- ---- a list of uses parts as its records do
+
+record Split (a : Kernel) (us : List Use) (ds ws : List (List ℕ)) : Type 0 where
   declaring : List Use
   working : List Use
   parts : us ≡ declaring ++ working
-  no-call : without acceptedCall (answers declaring) ≡ true
-  no-declaration : without acceptedDeclaration (answers working) ≡ true
-  declaring-handed : Handed a declaring
-  working-handed : Handed (last a declaring) working
-  declaring-octets : AllOctets (records declaring)
-  working-octets : AllOctets (records working)
+  first : records declaring ≡ ds
+  second : records working ≡ ws
+  first-handed : Handed a declaring
+  second-handed : Handed (last a declaring) working
 
-call-declares-not : (a d : Bool) → (a && not d) ≡ true → not (a && d) ≡ true
-call-declares-not true true e = e
-call-declares-not true false e = refl
-call-declares-not false d e = refl
-
-next-ok : (a : Kernel) (u : Use) → Promised a u → StateOk day (a .state) → Octets (u .bytes) → StateOk day (u .reply .kernel .state)
-next-ok a u p k o = rw (next-state a u p) (step-ok day isDay (a .state) k (u .bytes) o)
-
-next-begun : (a : Kernel) (u : Use) → Promised a u → StateOk day (a .state) → Octets (u .bytes)
-    → acceptedCall (entry u) ≡ true → u .reply .kernel .state .begun ≡ true
-next-begun a u p k o e =
-    rw (next-state a u p) (step-begins day isDay (a .state) k (u .bytes) o .begins (rw (← answered a u p) e))
-
-none : (a : Kernel) → Parts a []
-unfolding Handed answers records last without AllOctets
-none a =
+split : (ds ws : List (List ℕ)) (us : List Use) (a : Kernel) → Handed a us → records us ≡ ds ++ ws → Split a us ds ws
+unfolding Handed records last
+split [] ws us a h e =
     record {
       declaring = [];
-      working = [];
+      working = us;
       parts = refl;
-      no-call = refl;
-      no-declaration = refl;
-      declaring-handed = tt;
-      working-handed = tt;
-      declaring-octets = tt;
-      working-octets = tt;
+      first = refl;
+      second = e;
+      first-handed = tt;
+      second-handed = h;
     }
-
--- Here the first call is accepted.
-from-here : (a : Kernel) (u : Use) (us : List Use) → Handed a (u ∷ us) → AllOctets (records (u ∷ us)) → acceptedCall (entry u) ≡ true
-    → without acceptedDeclaration (answers us) ≡ true → Parts a (u ∷ us)
-unfolding Handed answers records last without AllOctets
-from-here a u us h o e q =
+split (d ∷ ds) ws [] a h e = absurd (let l = ap length e in omega arith)
+split (d ∷ ds) ws (u ∷ us) a h e =
+    let d-same : u .bytes ≡ d = cc in
+    let t : records us ≡ ds ++ ws = cc in
+    let p = split ds ws us (u .reply .kernel) (h .1) t in
     record {
-      declaring = [];
-      working = u ∷ us;
-      parts = refl;
-      no-call = refl;
-      no-declaration = and-both (call-declares-not (accepted (u .reply .answer)) (declaration (opened (u .bytes) .answer)) e) q;
-      declaring-handed = tt;
-      working-handed = h;
-      declaring-octets = tt;
-      working-octets = o;
+      declaring = u ∷ p .declaring;
+      working = p .working;
+      parts = ap (λ (l : List Use). u ∷ l) (p .parts);
+      first = rw (d-same, p .first);
+      second = p .second;
+      first-handed = (h .0, p .first-handed);
+      second-handed = p .second-handed;
     }
-
--- Not yet.
-one-more : (a : Kernel) (u : Use) (us : List Use) → Promised a u → Octets (u .bytes) → acceptedCall (entry u) ≡ false
-    → Parts (u .reply .kernel) us → Parts a (u ∷ us)
-unfolding Handed answers records last without AllOctets
-one-more a u us p o e t =
-    record {
-      declaring = u ∷ t .declaring;
-      working = t .working;
-      parts = ap (λ (l : List Use). u ∷ l) (t .parts);
-      no-call = and-both (not-of-false (acceptedCall (entry u)) e) (t .no-call);
-      no-declaration = t .no-declaration;
-      declaring-handed = (p, t .declaring-handed);
-      working-handed = t .working-handed;
-      declaring-octets = (o, t .declaring-octets);
-      working-octets = t .working-octets;
-    }
-
-in-parts : (us : List Use) (a : Kernel) → StateOk day (a .state) → Handed a us → AllOctets (records us) → Parts a us
-unfolding Handed records AllOctets
-in-parts [] a k h o = none a
-in-parts (u ∷ us) a k h o =
-    let b = u .reply .kernel in
-    let k′ = next-ok a u (h .0) k (o .0) in
-    byBool (acceptedCall (entry u))
-    (λ e. from-here a u us h o e
-    (rw (as-log us b (h .1)) (begun-declares-none day isDay (records us) (b .state) k′ (o .1) (next-begun a u (h .0) k (o .0) e))))
-    (λ e. one-more a u us (h .0) (o .0) e (in-parts us b k′ (h .1) (o .1)))
 
 -- ---- from what `Kernel::fresh` hands back
 
-nothing-ok : StateOk day nothing
-unfolding AllOctets without log final
-nothing-ok = let f = declared-is-fresh day isDay [] tt refl in ok-of-passes day nothing (record { tables = f .tables; tested = f .tested })
-
-declared-kernel-fresh : (a : Kernel) → HandedFresh a → (us : List Use) → Handed a us → AllOctets (records us)
-    → without acceptedCall (answers us) ≡ true → Fresh day (last a us .state)
-declared-kernel-fresh a m us h o q =
-    rw (as-final us a h, m) (declared-is-fresh day isDay (records us) o (rw (as-log us a h, m) at q))
-
-delivered : (a : Kernel) (us : List Use) → HandedFresh a → Parts a us → Delivered a us
-delivered a us m t =
-    let f = declared-kernel-fresh a m (t .declaring) (t .declaring-handed) (t .declaring-octets) (t .no-call) in
+delivered : (a : Kernel) → HandedFresh a → (us : List Use) → Handed a us → (p : Parted day (records us)) → Split a us (p .declaring) (p .working) → Delivered a us
+delivered a m us h p s =
+    let b = last a (s .declaring) in
+    let entries : answers (s .declaring) ≡ log day nothing (p .declaring) = rw (as-log (s .declaring) a (s .first-handed), m, s .first) in
+    let made : b .state ≡ final day nothing (p .declaring) = rw (as-final (s .declaring) a (s .first-handed), m, s .first) in
+    let worked : answers (s .working) ≡ log day (final day nothing (p .declaring)) (p .working) = rw (as-log (s .working) b (s .second-handed), made, s .second) in
     record {
-      declaring = t .declaring;
-      working = t .working;
-      parts = t .parts;
-      no-call = t .no-call;
-      no-declaration = t .no-declaration;
-      fresh = f;
-      balanced = code-balances (last a (t .declaring)) f (t .working) (t .working-handed) (t .working-octets) (t .no-declaration);
+      declaring = s .declaring;
+      working = s .working;
+      parts = s .parts;
+      no-call = rw entries (p .no-call);
+      no-declaration = rw worked (p .no-declaration);
+      machine = code-is-machine a us h;
+      fresh = rw made (p .fresh);
+      preset = rw (entries, made) (p .preset);
+      balanced = as-balanced b (s .working) (s .second-handed) (rw (made, s .second) (p .balanced));
     }
 
 pub fresh-delivers : FreshDelivers
-fresh-delivers a m us h o = delivered a us m (in-parts us a (rw m nothing-ok) h o)
+fresh-delivers a m us h o =
+    let p = all-parted day isDay (records us) o in
+    delivered a m us h p (split (p .declaring) (p .working) us a h (p .parts))

@@ -1,2 +1,3 @@
-pub mod Begun
+pub mod Methods
 pub mod Delivered
+pub mod Scripted

@@ -1,2 +1,4 @@
--- The balance of what `Kernel::fresh` and `Kernel::step` hand back.
+-- The balance of what `Kernel::fresh`, `Kernel::step`, the methods and the script function hand back.
+pub mod Methods
 pub mod Delivered
+pub mod Scripted

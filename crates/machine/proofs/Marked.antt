@@ -1,25 +1,27 @@
 -- The marked cases hold: what is short is computed, long rows of ticks go by the law of quiet ticks.
 use mathlib.Core.Path.{_≡_, refl, ap, _∙_}
-use mathlib.Core.Bool.{true}
+use mathlib.Core.Bool.{true, false}
 use mathlib.Core.List.{List, [], _∷_, _++_}
-use Prim.Native.Nat.{ℕ, _+_, _≤_, _^_}
+use Prim.Native.Nat.{ℕ, _+_, _-_, _≤_, _^_}
 use native.Mathlib.Omega.{arith}
 use Rattle.calendar.specs.Limits.{day, lastInstant}
 use Rattle.task.specs.State.{noSchedule}
 use Rattle.task.specs.declared.Kept.the-variants.{Empty}
+use Rattle.task.specs.declared.Task.{Task}
 use Rattle.machine.specs.declared.State.{State}
 use Rattle.machine.specs.declared.Running.the-variants.{Idle, Runs}
 use Rattle.machine.specs.State.{nothing}
 use Rattle.machine.specs.Running.{runner}
 use Rattle.machine.specs.Test.{valid}
-use Rattle.machine.specs.Step.{plainAnswer}
-use Rattle.machine.specs.Scripts.{row, hours, declareTask, declareClock, oneTick, AT_ALL_UNTIL_ACTIVATE_}
+use Rattle.machine.specs.Step.{plainAnswer, step}
+use Rattle.machine.specs.Log.{log}
+use Rattle.machine.specs.Scripts.{row, hours, declareTask, declareClock, oneTick, AT_ACTIVATE_, AT_ALL_UNTIL_ACTIVATE_}
 use Rattle.machine.specs.Quiet.{Quiet, later, QuietTicks}
-use Rattle.machine.specs.Marked.{answers, after, line, quiet, MarkedCases}
+use Rattle.machine.specs.Marked.{answers, after, line, quiet, anHour, anHourLines, threeLines, MarkedCases}
 use Rattle.machine.proofs.Computing.{computed}
 use Rattle.machine.proofs.Quiet.{ticks-are-quiet}
-use Rattle.machine.proofs.Waits.{from, answers-append, quiet-then, only, lone, awake, lone-answers}
-use Rattle.machine.proofs.Evening.{noon-lines, late-lines}
+use Rattle.machine.proofs.Waits.{from, answers-append, quiet-then, only, lone, awake, lone-quiet, lone-answers}
+use Rattle.machine.proofs.Evening.{started, Twice, three-lines, noon-lines, late-lines}
 
 -- ---- M4
 
@@ -44,6 +46,60 @@ one-start : (d : ℕ) → d ≤ 2 ^ 40
 one-start d l =
     answers-append atOnce (row d oneTick)
     ∙ rw (due-at-once, gone, lone-answers (hours 12) 0 d (only true Empty noSchedule) tested (λ x a b. refl) (omega arith), awake (hours 12) 0 Empty noSchedule)
+
+-- After an hour of ticks the task is as it was declared.
+declared : List (List ℕ)
+declared = declareTask 5 ∷ declareClock (hours 12) ∷ []
+
+abbrev idle : Task
+idle = only false Empty noSchedule
+
+hour-passes : (rs : List (List ℕ)) → answers (anHour ++ rs) ≡ anHourLines ++ from (lone (hours 12) (hours 1) idle) rs
+unfolding computed declared lone later
+hour-passes rs =
+    answers-append declared (row (hours 1) oneTick ++ rs)
+    ∙ ap (λ l. quiet Idle ∷ quiet Idle ∷ l) (quiet-then (hours 1) (after declared) refl refl (lone-quiet (hours 12) 0 (hours 1) idle (λ x a b. refl)) (omega arith) rs)
+
+due-once : step day (lone (hours 12) (hours 1) idle) (AT hours 13 ACTIVATE 0)
+    ≡ record { state = lone (hours 12) (hours 1) (only true Empty noSchedule); answer = line 0 (Runs 0) 1 1 0 0 0 }
+unfolding computed lone
+due-once = refl
+
+tested-once : valid day (lone (hours 12) (hours 1) (only true Empty noSchedule)) ≡ true
+unfolding computed lone
+tested-once = refl
+
+once : (d : ℕ) → hours 1 + d ≤ 2 ^ 40
+    → answers (anHour ++ (AT hours 13 ACTIVATE 0) ∷ row d oneTick)
+    ≡ anHourLines ++ line 0 (Runs 0) 1 1 0 0 0 ∷ row d (quiet (Runs 0))
+unfolding log
+once d l =
+    hour-passes ((AT hours 13 ACTIVATE 0) ∷ row d oneTick)
+    ∙ rw (due-once, lone-answers (hours 12) (hours 1) d (only true Empty noSchedule) tested-once (λ x a b. refl) l, awake (hours 12) (hours 1) Empty noSchedule)
+
+-- With an end two hours later.
+abbrev pause : ℕ
+pause = hours 1 - 1
+
+due-first : step day (lone (hours 12) (hours 1) idle) (AT hours 13 ALL hours 1 UNTIL hours 15 ACTIVATE 0)
+    ≡ record {
+      state = lone (hours 12) (hours 1) (started (hours 12) (hours 13) (hours 15) pause (hours 1));
+      answer = line 0 (Runs 0) 1 1 0 0 0;
+    }
+unfolding computed lone
+due-first = refl
+
+twice : Twice (hours 12) (hours 13) (hours 15) pause (hours 1)
+unfolding computed lone
+twice = record { second = refl; third = refl; tested = (refl, refl, refl) }
+
+thrice : (d : ℕ) → hours 3 + d ≤ 2 ^ 40
+    → answers (anHour ++ (AT hours 13 ALL hours 1 UNTIL hours 15 ACTIVATE 0) ∷ row (hours 2 + d) oneTick)
+    ≡ anHourLines ++ threeLines (hours 1) d
+unfolding log
+thrice d l =
+    hour-passes ((AT hours 13 ALL hours 1 UNTIL hours 15 ACTIVATE 0) ∷ row (hours 2 + d) oneTick)
+    ∙ rw (due-first, three-lines (hours 12) (hours 13) (hours 15) pause (hours 1) twice d l (hours 2 + d) (omega arith))
 
 -- ---- M10
 
@@ -93,8 +149,11 @@ marked-cases =
       m2 = noon-lines;
       m3 = late-lines;
       m4 = one-start;
+      m4-once = once;
+      m4-until = thrice;
       m5 = refl;
       m6 = refl;
+      m6-again = refl;
       m7 = refl;
       m7-value = refl;
       m8 = refl;

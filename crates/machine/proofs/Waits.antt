@@ -90,7 +90,7 @@ awake c n kept s = refl
 abbrev pub Calm : ℕ → ℕ → Task → Type 0
 Calm n d t = (x : ℕ) → n < x → x ≤ n + d → comes (instant x) t ≡ false
 
-lone-quiet : (c n d : ℕ) (t : Task) → Calm n d t → Quiet d (lone c n t)
+pub lone-quiet : (c n d : ℕ) (t : Task) → Calm n d t → Quiet d (lone c n t)
 unfolding lone
 lone-quiet c n d t q zero l x a b = q x a b
 lone-quiet c n d t q (suc i) l x a b = absurd (omega arith)

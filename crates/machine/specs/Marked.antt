@@ -14,7 +14,7 @@ use Rattle.machine.specs.declared.Running.the-variants.{Idle, Runs}
 use Rattle.machine.specs.State.{taskAt, nothing}
 use Rattle.machine.specs.Step.{plainAnswer, step}
 use Rattle.machine.specs.Log.{final, log}
-use Rattle.machine.specs.Scripts.{row, hours, declareTask, declareSemaphore, declareClock, activate, terminate, resumeAfter, request, release, oneTick, AT_ALL_UNTIL_ACTIVATE_, AFTER_ACTIVATE_, ALL_DURING_ACTIVATE_}
+use Rattle.machine.specs.Scripts.{row, hours, declareTask, declareSemaphore, declareInterrupt, declareClock, activate, terminate, resumeAfter, request, release, oneTick, AT_ACTIVATE_, AT_ALL_UNTIL_ACTIVATE_, AFTER_ACTIVATE_, ALL_DURING_ACTIVATE_, WHEN_AFTER_ACTIVATE_}
 
 -- The answers to a script, and the kernel that it leaves.
 abbrev pub answers : List (List ℕ) → List Answer
@@ -48,14 +48,24 @@ evening clock =
     ∷ (AT hours 22 ALL hours 2 UNTIL hours 2 ACTIVATE 0)
     ∷ []
 
--- What that answers to the declarations, the call and the ticks. The start after n ticks is made, the one 2 h later
--- is kept back, the one 4 h later is lost, and nothing comes in d further ticks.
-abbrev pub eveningLines : ℕ → ℕ → List Answer
-eveningLines n d =
-    quiet Idle ∷ quiet Idle ∷ quiet Idle ∷ row (n - 1) (quiet Idle)
-    ++ line 0 (Runs 0) 1 1 0 0 0 ∷ row (hours 2 - 1) (quiet (Runs 0))
-    ++ line 0 (Runs 0) 1 0 0 0 0 ∷ row (hours 2 - 1) (quiet (Runs 0))
+-- Three dues p ticks apart and d further ticks: the first start is made, the second kept back, the third lost, and
+-- nothing else comes.
+abbrev pub threeLines : ℕ → ℕ → List Answer
+threeLines p d =
+    line 0 (Runs 0) 1 1 0 0 0 ∷ row (p - 1) (quiet (Runs 0))
+    ++ line 0 (Runs 0) 1 0 0 0 0 ∷ row (p - 1) (quiet (Runs 0))
     ++ line 0 (Runs 0) 1 0 0 1 0 ∷ row d (quiet (Runs 0))
+
+-- What that answers to the declarations, the call and the ticks, with the first due after n of them.
+abbrev pub eveningLines : ℕ → ℕ → List Answer
+eveningLines n d = quiet Idle ∷ quiet Idle ∷ quiet Idle ∷ row (n - 1) (quiet Idle) ++ threeLines (hours 2) d
+
+-- M4's, at 13:00: an hour of ticks since 12:00.
+abbrev pub anHour : List (List ℕ)
+anHour = declareTask 5 ∷ declareClock (hours 12) ∷ row (hours 1) oneTick
+
+abbrev pub anHourLines : List Answer
+anHourLines = quiet Idle ∷ quiet Idle ∷ row (hours 1) (quiet Idle)
 
 -- M5's script: a living task with a start at each of the instants 0, 1 and 2.
 abbrev pub threeDues : List (List ℕ)
@@ -89,16 +99,23 @@ pub record MarkedCases : Type 0 where
       ∷ line 0 (Runs 1) 0 0 0 0 2
       ∷ line 9 (Runs 1) 0 0 0 0 0
       ∷ []
-  -- Seen from 12:00: dues at 36,000,000 ms and then twice at intervals of 2 h, and no other tick has one.
-  pub m2 : (d : ℕ) → 50400000 + d ≤ 2 ^ 40
-      → answers (evening (hours 12) ++ row (50400000 + d) oneTick) ≡ eveningLines 36000000 d
-  -- At 23:00 the first comes due after 82,800,000 ms, the others 2 h and 4 h later.
-  pub m3 : (d : ℕ) → 97200000 + d ≤ 2 ^ 40
-      → answers (evening (hours 23) ++ row (97200000 + d) oneTick) ≡ eveningLines 82800000 d
+  -- Seen from 12:00: dues after 10 h and then twice at intervals of 2 h, and no other tick has one.
+  pub m2 : (d : ℕ) → hours 14 + d ≤ 2 ^ 40
+      → answers (evening (hours 12) ++ row (hours 14 + d) oneTick) ≡ eveningLines (hours 10) d
+  -- At 23:00 the first comes due after 23 h, the others 2 h and 4 h later.
+  pub m3 : (d : ℕ) → hours 27 + d ≤ 2 ^ 40
+      → answers (evening (hours 23) ++ row (hours 27 + d) oneTick) ≡ eveningLines (hours 23) d
   -- A start AT this very time is made by the call itself; with UNTIL that same time no other follows.
   pub m4 : (d : ℕ) → d ≤ 2 ^ 40
       → answers (declareTask 5 ∷ declareClock (hours 12) ∷ (AT hours 12 ALL hours 1 UNTIL hours 12 ACTIVATE 0) ∷ row d oneTick)
       ≡ quiet Idle ∷ quiet Idle ∷ line 0 (Runs 0) 1 1 0 0 0 ∷ row d (quiet (Runs 0))
+  -- So it is after some ticks: without a period one start, with UNTIL two hours later two more dues.
+  pub m4-once : (d : ℕ) → hours 1 + d ≤ 2 ^ 40
+      → answers (anHour ++ (AT hours 13 ACTIVATE 0) ∷ row d oneTick)
+      ≡ anHourLines ++ line 0 (Runs 0) 1 1 0 0 0 ∷ row d (quiet (Runs 0))
+  pub m4-until : (d : ℕ) → hours 3 + d ≤ 2 ^ 40
+      → answers (anHour ++ (AT hours 13 ALL hours 1 UNTIL hours 15 ACTIVATE 0) ∷ row (hours 2 + d) oneTick)
+      ≡ anHourLines ++ threeLines (hours 1) d
   -- The living task is due three times: the first start is kept back, the others are lost.
   pub m5 : answers threeDues
       ≡ quiet Idle
@@ -109,6 +126,8 @@ pub record MarkedCases : Type 0 where
       ∷ []
   -- TERMINATE of that task: it has ended, and what was kept back has started.
   pub m6 : step day (after threeDues) (terminate 0) .answer ≡ line 0 (Runs 0) 0 1 1 0 0
+  -- That start is used up: the next TERMINATE ends the task, and nothing starts.
+  pub m6-again : step day (after (threeDues ++ terminate 0 ∷ [])) (terminate 0) .answer ≡ line 0 Idle 0 0 1 0 0
   -- RELEASE at 65,534 passes, the next one is refused with 13 and changes nothing.
   pub m7 : answers full ≡ quiet Idle ∷ quiet Idle ∷ line 0 (Runs 0) 1 1 0 0 0 ∷ quiet (Runs 0) ∷ plainAnswer 13 (Runs 0) ∷ []
   pub m7-value : valueAt (after full .locks) 0 ≡ 65535
@@ -116,13 +135,15 @@ pub record MarkedCases : Type 0 where
   pub m8 : answers half ≡ quiet Idle ∷ quiet Idle ∷ quiet Idle ∷ line 0 (Runs 0) 1 1 0 0 0 ∷ quiet Idle ∷ []
   pub m8-values : (valueAt (after half .locks) 0 ≡ 1) × (valueAt (after half .locks) 1 ≡ 0)
   pub m8-waits : (taskAt (after half .tasks) 0 .wait ≡ Request) × (wanted (taskAt (after half .tasks) 0) ≡ 0 ∷ 1 ∷ [])
-  -- A duration of 0 is refused with 6, 1 passes: AFTER, DURING and RESUME.
+  -- A duration of 0 is refused with 6, 1 passes: AFTER, WHEN AFTER, DURING and RESUME.
   pub m9 : answers
-      (declareTask 5
+      (declareTask 5 ∷ declareInterrupt
       ∷ (AFTER 0 ACTIVATE 0) ∷ (AFTER 1 ACTIVATE 0)
+      ∷ (WHEN 0 AFTER 0 ACTIVATE 0) ∷ (WHEN 0 AFTER 1 ACTIVATE 0)
       ∷ (ALL 1 DURING 0 ACTIVATE 0) ∷ (ALL 1 DURING 1 ACTIVATE 0)
       ∷ resumeAfter 0 ∷ resumeAfter 1 ∷ [])
-      ≡ quiet Idle
+      ≡ quiet Idle ∷ quiet Idle
+      ∷ plainAnswer 6 Idle ∷ quiet Idle
       ∷ plainAnswer 6 Idle ∷ quiet Idle
       ∷ plainAnswer 6 Idle ∷ line 0 (Runs 0) 1 1 0 0 0
       ∷ plainAnswer 6 (Runs 0) ∷ quiet Idle

@@ -2,6 +2,7 @@
 use mathlib.Core.List.{List, [], _∷_}
 use Prim.Native.Nat.{ℕ, _*_}
 use lib.ListN.{length, replicate}
+use Rattle.calendar.specs.Limits.{hour}
 use Rattle.layout.specs.Fields.{bytesOf}
 use Rattle.layout.specs.declared.Mark.{Mark}
 use Rattle.layout.specs.declared.Mark.the-variants.{DT, DS, IT, DC, AC, TE, RE, RQ, RL, TR, TG, EI, TI}
@@ -11,7 +12,7 @@ unfoldable pub row {ℓ} : {A : Type ℓ} → ℕ → A → List A
 row n a = replicate n a
 
 abbrev pub hours : ℕ → ℕ
-hours h = h * 3600000
+hours h = h * hour
 
 -- ---- without a start
 
@@ -101,7 +102,10 @@ activation i k n e f p t =
       list = [];
     })
 
-infix 20 AT_ALL_UNTIL_ACTIVATE_ AFTER_ACTIVATE_ ALL_DURING_ACTIVATE_ WHEN_AFTER_ACTIVATE_
+infix 20 AT_ACTIVATE_ AT_ALL_UNTIL_ACTIVATE_ AFTER_ACTIVATE_ ALL_DURING_ACTIVATE_ WHEN_AFTER_ACTIVATE_
+abbrev pub AT_ACTIVATE_ : ℕ → ℕ → List ℕ
+AT t ACTIVATE i = activation i 1 0 0 t 0 0
+
 abbrev pub AT_ALL_UNTIL_ACTIVATE_ : ℕ → ℕ → ℕ → ℕ → List ℕ
 AT t ALL p UNTIL u ACTIVATE i = activation i 1 0 1 t p u
 

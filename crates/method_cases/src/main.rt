@@ -1,12 +1,16 @@
 // Calls the methods as a program would, and prints their lines. stdout has the lines that document 01 gives.
 ghost use mathlib.Core.Path.{_≡_};
 ghost use mathlib.Core.List.{List, [], _∷_};
+use calendar::End;
 use calendar::Instant;
+use calendar::Moment;
 use kernel::Kernel;
 use kernel::Reply;
 use kernel::StartCondition;
 use lines::line_at;
 use machine::Answer;
+use task::Schedule;
+use task::Task;
 
 fn print_line(a: Answer) {
     let mut out = io::buffer();
@@ -26,6 +30,20 @@ fn show(r: Reply) -> Kernel
     kernel
 }
 
+// Prints the running task as the line of an accepted call.
+fn show_running(kernel: Kernel) {
+    let running = kernel.running();
+    print_line(Answer {
+        number: 0,
+        running,
+        due: 0,
+        started: 0,
+        ended: 0,
+        lost: 0,
+        granted: 0,
+    });
+}
+
 // A start of a kind on interrupt 0, once.
 fn start_of(kind: u8) -> StartCondition
     ensures { λ r. ⌜ r ≡ record { kind = kind; interrupt = 0; endkind = 0; first = 0; period = 0; endtime = 0 } ⌝ }
@@ -35,6 +53,20 @@ fn start_of(kind: u8) -> StartCondition
         interrupt: 0,
         endkind: 0,
         first: 0,
+        period: 0,
+        endtime: 0,
+    }
+}
+
+// A start after 1 ms, once.
+fn after_one() -> StartCondition
+    ensures { λ r. ⌜ r ≡ record { kind = 2; interrupt = 0; endkind = 0; first = 1; period = 0; endtime = 0 } ⌝ }
+{
+    StartCondition {
+        kind: 2,
+        interrupt: 0,
+        endkind: 0,
+        first: 1,
         period: 0,
         endtime: 0,
     }
@@ -123,10 +155,82 @@ fn beyond_limits() {
     show(Kernel { state: k }.tick());
 }
 
+// Schedules that no call leaves and that pass the test: the next due after the last, and an end without a period. The
+// priority of a terminated task isn't the declared one.
+fn odd_schedules() {
+    let mut kernel = Kernel::fresh();
+    kernel = show(kernel.declare_task(5));
+    kernel = show(kernel.declare_task(6));
+    kernel = show(kernel.activate(1, 0, start_of(0)));
+    kernel = show(kernel.activate(0, 0, after_one()));
+    let mut k = kernel.state;
+    let mut t = k.tasks[0];
+    let mut s = t.schedule;
+    let last = Moment::At(Instant(0));
+    let late = Schedule {
+        last,
+        period: 1,
+        ..s
+    };
+    k.tasks[0] = Task {
+        current: 7,
+        schedule: late,
+        ..t
+    };
+    kernel = show(Kernel { state: k }.tick());
+    kernel = show(kernel.tick());
+    kernel = show(kernel.terminate(0));
+    kernel = show(kernel.activate(0, 0, after_one()));
+    k = kernel.state;
+    t = k.tasks[0];
+    s = t.schedule;
+    let end = End::Until(0);
+    let ended = Schedule { end, ..s };
+    k.tasks[0] = Task {
+        schedule: ended,
+        ..t
+    };
+    show(Kernel { state: k }.tick());
+}
+
+// The last of an armed schedule isn't looked at, the end of one that waits for its next due is. Then the kernel fails
+// the test, and its running task is the rule's.
+fn stored_ends() {
+    let mut kernel = Kernel::fresh();
+    kernel = show(kernel.declare_task(5));
+    kernel = show(kernel.declare_interrupt());
+    kernel = show(kernel.activate(0, 0, start_of(0)));
+    kernel = show(kernel.activate(0, 0, start_of(3)));
+    let mut k = kernel.state;
+    let mut t = k.tasks[0];
+    let mut s = t.schedule;
+    let last = Moment::At(Instant(4398046511105));
+    let armed = Schedule { last, ..s };
+    k.tasks[0] = Task {
+        schedule: armed,
+        ..t
+    };
+    kernel = show(Kernel { state: k }.tick());
+    kernel = show(kernel.activate(0, 0, after_one()));
+    k = kernel.state;
+    t = k.tasks[0];
+    s = t.schedule;
+    let end = End::Until(86400000);
+    let ended = Schedule { end, ..s };
+    k.tasks[0] = Task {
+        schedule: ended,
+        ..t
+    };
+    kernel = show(Kernel { state: k }.tick());
+    show_running(kernel);
+}
+
 fn main() {
     locks();
     holds();
     starts();
     last_instant();
     beyond_limits();
+    odd_schedules();
+    stored_ends();
 }

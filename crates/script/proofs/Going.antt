@@ -45,7 +45,7 @@ isDay = record { some = omega arith; room = omega arith }
 abbrev pub part : List ℕ → ℕ → ℕ → List ℕ
 part s at to = take (to - at) (drop at s)
 
-octets-part : (s : List ℕ) (at to : ℕ) → Octets s → Octets (part s at to)
+pub octets-part : (s : List ℕ) (at to : ℕ) → Octets s → Octets (part s at to)
 octets-part s at to o i =
     byBool (ltb i (to - at))
     (λ e. rw (getD-take (to - at) (drop at s) i 0 (ltb-true _ _ e), getD-drop at s i 0) (o (at + i)))

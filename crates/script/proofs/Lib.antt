@@ -8,3 +8,4 @@ pub mod Going
 -- Proofs of the promises.
 pub mod AnswerLaws
 pub mod PromiseProofs
+pub mod WholeProofs

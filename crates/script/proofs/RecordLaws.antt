@@ -1,5 +1,5 @@
 -- The records of a script, one after the other.
-use mathlib.Core.Path.{_≡_, refl, _∙_, ap}
+use mathlib.Core.Path.{_≡_, refl, sym, _∙_, ap}
 use mathlib.Core.List.{List, [], _∷_}
 use Prim.Native.Nat.{ℕ, zero, suc, _+_, _-_, _≤_, _<_, min}
 use native.Mathlib.Nat.{not-suc-le-zero}
@@ -35,6 +35,11 @@ first-record [] h = absurd (omega arith)
 first-record (b ∷ s) h =
     let l = length-drop recordLength (b ∷ s) in
     ap (λ (l : List (List ℕ)). take recordLength (b ∷ s) ∷ l) (enough (length s) (length (drop recordLength (b ∷ s))) (drop recordLength (b ∷ s)) (omega arith) (omega arith))
+
+-- Where there are no records there are no bytes.
+pub none-left : (s : List ℕ) → records s ≡ [] → length s ≡ 0
+none-left [] e = refl
+none-left (b ∷ s) e = let l = ap length (sym (first-record (b ∷ s) (omega arith)) ∙ e) in absurd (omega arith)
 
 -- The bytes from at on start with the record that ends at to.
 pub record-at : (s : List ℕ) (at to : ℕ) → at < length s → to ≡ min (at + recordLength) (length s)

@@ -3,3 +3,4 @@ pub mod Records
 pub mod Printed
 pub mod Script
 pub mod Promises
+pub mod Marked
