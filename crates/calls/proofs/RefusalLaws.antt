@@ -1,7 +1,7 @@
--- What the state refuses, by the sort of the mark.
+-- What passes the first of the formal refusals, and what the state refuses, by the sort of the mark.
 use mathlib.Core.Path.{_≡_, refl}
 use mathlib.Core.Bool.{Bool, true, false, not, _||_, or-true}
-use Prim.Native.Nat.{ℕ}
+use Prim.Native.Nat.{ℕ, _≤_}
 use lib.Dec.{ltb}
 use Rattle.calendar.specs.Limits.{lastInstant}
 use Rattle.calendar.specs.declared.Instant.{Instant}
@@ -9,7 +9,8 @@ use Rattle.layout.specs.Marks.{is}
 use Rattle.layout.specs.declared.Call.{Call}
 use Rattle.layout.specs.declared.Mark.{Mark}
 use Rattle.layout.specs.declared.Mark.the-variants.{AC, TE, SU, CO, TI}
-use Rattle.record.specs.Refusals.{named, unless}
+use Rattle.record.specs.Refusals.{mostNumbers, named, unless, formed, shape}
+use Rattle.record.proofs.ShapeLaws.{formed-short}
 use Rattle.lock.specs.Locks.{waiting, every, taken}
 use Rattle.lock.specs.declared.Locks.{Locks}
 use Rattle.lock.specs.declared.Wait.{Wait}
@@ -21,8 +22,14 @@ use Rattle.machine.specs.declared.Sort.the-variants.{Declaration, OneTask, TheR
 use Rattle.machine.specs.Running.{someone}
 use Rattle.machine.specs.Sorts.{sortOf, naming}
 use Rattle.machine.specs.Refusals.{unreturnable, refusalBy}
+use Rattle.machine.proofs.Passed.{unless-passed}
 use Rattle.machine.proofs.Sorts.{other-mark, given-waits, tick-mark}
 use Rattle.calls.specs.Inner.{ticking, namedRefusal}
+
+-- A list of a shape that isn't refused is no longer than the longest.
+pub shaped-short : (c : Call) → shape c ≡ 0 → c .head .len ≤ mostNumbers
+unfolding shape
+shaped-short c e = formed-short c (unless-passed (formed c) 2 _ e .0)
 
 abbrev bySort : Sort → Mark → Call → Running → Task → Locks → Instant → ℕ
 bySort Declaration m c r t l n = 0
