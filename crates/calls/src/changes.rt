@@ -13,6 +13,7 @@ use layout::Mark;
 use layout::Numbers;
 use lock::Locks;
 use lock::Wait;
+use lock::Way;
 use machine::Running;
 use serving::ends::Marks;
 use survey::sets::only_task;
@@ -86,8 +87,8 @@ fn asked(waits: bool, w: Wait, h: Head, list: Numbers, t: Task, locks: Locks) ->
     ensures { λ c. ⌜ c ≡ asks waits w (callWith h list) t locks ⌝ }
 {
     let n = h.len as usize;
-    if locks.is_grantable(w, n, list) {
-        return by_locks(t, locks.take_all(w, n, list), true);
+    if locks.can_move_all(Way::Take, w, n, list) {
+        return by_locks(t, locks.move_all(Way::Take, w, n, list), true);
     }
     if !waits {
         return by_locks(t, locks, false);
@@ -122,9 +123,9 @@ pub(crate) fn change_of(
         Mark::TR => asked(false, Wait::Request, h, list, t, locks),
         Mark::RS => asked(true, Wait::Reserve, h, list, t, locks),
         Mark::ET => asked(true, Wait::Enter, h, list, t, locks),
-        Mark::RL => by_locks(t, locks.give_all(Wait::Request, n, list), false),
-        Mark::FR => by_locks(t, locks.give_all(Wait::Reserve, n, list), false),
-        Mark::LV => by_locks(t, locks.give_all(Wait::Enter, n, list), false),
+        Mark::RL => by_locks(t, locks.move_all(Way::Give, Wait::Request, n, list), false),
+        Mark::FR => by_locks(t, locks.move_all(Way::Give, Wait::Reserve, n, list), false),
+        Mark::LV => by_locks(t, locks.move_all(Way::Give, Wait::Enter, n, list), false),
         _ => by_locks(t, locks, false),
     }
 }

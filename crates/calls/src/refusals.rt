@@ -15,9 +15,15 @@ use layout::Head;
 use layout::Mark;
 use layout::Numbers;
 use lock::Locks;
+use lock::MOST_LOCKS;
 use lock::Wait;
+use lock::Way;
 use machine::Counts;
+use machine::MOST_INTERRUPTS;
+use machine::MOST_TASKS;
 use machine::Running;
+use record::kinds::WHEN;
+use record::kinds::WHEN_AFTER;
 use record::times::times_of;
 use serving::ends::is_someone;
 use survey::check::are_below;
@@ -38,10 +44,10 @@ fn has_room(mark: Mark, n: Counts) -> bool
     ensures { λ r. ⌜ r ≡ roomFor mark n ⌝ }
 {
     match mark {
-        Mark::DT => n.tasks < 32,
-        Mark::DS => n.semaphores < 16,
-        Mark::DB => n.bolts < 16,
-        Mark::IT => n.interrupts < 8,
+        Mark::DT => n.tasks < MOST_TASKS,
+        Mark::DS => n.semaphores < MOST_LOCKS,
+        Mark::DB => n.bolts < MOST_LOCKS,
+        Mark::IT => n.interrupts < MOST_INTERRUPTS,
         _ => true,
     }
 }
@@ -58,7 +64,7 @@ fn is_list_declared(n: Counts, w: Wait, h: Head, list: Numbers) -> bool
 fn is_start_declared(n: Counts, h: Head) -> bool
     ensures { λ r. ⌜ r ≡ startDeclared n h ⌝ }
 {
-    let on_interrupt = (h.kind == 3) | (h.kind == 4);
+    let on_interrupt = (h.kind == WHEN) | (h.kind == WHEN_AFTER);
     (h.number < n.tasks) & (!on_interrupt | (h.interrupt < n.interrupts))
 }
 
@@ -136,17 +142,17 @@ pub(crate) fn state_refusal(
         Mark::RL => unless(
             runs,
             8,
-            unless(locks.is_returnable(Wait::Request, n, list), 13, 0),
+            unless(locks.can_move_all(Way::Give, Wait::Request, n, list), 13, 0),
         ),
         Mark::FR => unless(
             runs,
             8,
-            unless(locks.is_returnable(Wait::Reserve, n, list), 14, 0),
+            unless(locks.can_move_all(Way::Give, Wait::Reserve, n, list), 14, 0),
         ),
         Mark::LV => unless(
             runs,
             8,
-            unless(locks.is_returnable(Wait::Enter, n, list), 14, 0),
+            unless(locks.can_move_all(Way::Give, Wait::Enter, n, list), 14, 0),
         ),
         Mark::TI => unless(now.0 < LAST_INSTANT, 15, 0),
         _ => 0,

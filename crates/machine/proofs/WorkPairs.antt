@@ -11,11 +11,12 @@ use Rattle.calendar.specs.declared.Instant.{Instant}
 use Rattle.record.specs.Refusals.{named}
 use Rattle.layout.specs.declared.Head.{Head}
 use Rattle.layout.specs.declared.Call.{Call}
+use Rattle.lock.specs.declared.Way.the-variants.{Take, Give}
 use Rattle.lock.specs.declared.Wait.{Wait}
 use Rattle.lock.specs.declared.Locks.{Locks}
 use Rattle.lock.proofs.Bools.{byBool}
 use Rattle.lock.proofs.Tables.{Like, like-set, like-take, like-front}
-use Rattle.lock.proofs.Alike.{Alike, Seen, seen, take-alike, give-alike}
+use Rattle.lock.proofs.Alike.{Alike, Seen, seen, move-alike}
 use Rattle.task.specs.State.{noTask, waitFor}
 use Rattle.task.specs.Turns.{unmarked}
 use Rattle.task.specs.declared.Task.{Task}
@@ -89,7 +90,7 @@ module _ (k : State) (ts : List Task) (r : Locks) (is : List Bool) (f : Fits (k 
   pub give-pair : (w : Wait) (c : Call) → WorkPair n (giveBack k w c) (giveBack k′ w c)
   give-pair w c =
       only-pair _ _ (k .enabled) is 0
-      (give-alike mostSemaphores mostBolts (n .semaphores) (n .bolts) (f .semaphores) (f .bolts) w (named c) (k .locks) r (h .locks)) ints
+      (move-alike mostSemaphores mostBolts (n .semaphores) (n .bolts) (f .semaphores) (f .bolts) Give w (named c) (k .locks) r (h .locks)) ints
 
   pub enable-pair : (i : ℕ) (b : Bool) → WorkPair n (enable k i b) (enable k′ i b)
   enable-pair i b =
@@ -203,5 +204,5 @@ module _ (k : State) (ts : List Task) (r : Locks) (is : List Bool) (f : Fits (k 
             byBool (couldBeGranted (n .tasks) (k .tasks) (k .locks) (taskAt (k .tasks) i .current) w (named c))
             (λ b. rw (b, sym (could i l) ∙ b)
             (only-pair _ _ (k .enabled) is (2 ^ i)
-            (take-alike mostSemaphores mostBolts (n .semaphores) (n .bolts) (f .semaphores) (f .bolts) w (named c) (k .locks) r (h .locks)) ints))
+            (move-alike mostSemaphores mostBolts (n .semaphores) (n .bolts) (f .semaphores) (f .bolts) Take w (named c) (k .locks) r (h .locks)) ints))
             (λ b. rw (b, sym (could i l) ∙ b) (wait-pair i l))

@@ -3,6 +3,10 @@ use calendar::Instant;
 use lock::Locks;
 use task::Task;
 
+pub const MOST_TASKS: u8 = 32;
+
+pub const MOST_INTERRUPTS: u8 = 8;
+
 // How many of each kind are declared.
 pub struct Counts {
     pub tasks: u8,
@@ -12,9 +16,9 @@ pub struct Counts {
 }
 
 pub struct State {
-    pub tasks: [Task; 32],
+    pub tasks: [Task; MOST_TASKS as usize],
     pub locks: Locks,
-    pub enabled: [bool; 8],
+    pub enabled: [bool; MOST_INTERRUPTS as usize],
     pub counts: Counts,
     // The time of day at instant 0.
     pub clock: u32,
