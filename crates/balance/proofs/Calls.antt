@@ -9,13 +9,14 @@ use borrow.Author.Tests.{eq-eqb, ne-eqb}
 use Rattle.record.specs.Refusals.{named}
 use Rattle.layout.specs.declared.Call.{Call}
 use Rattle.lock.specs.Locks.{waiting, level}
+use Rattle.lock.specs.declared.Way.the-variants.{Take, Give}
 use Rattle.lock.specs.declared.Wait.{Wait}
 use Rattle.lock.specs.declared.Wait.the-variants.{Nothing}
 use Rattle.lock.specs.declared.Locks.{Locks}
 use Rattle.lock.proofs.Bools.{tests, byEq, contra}
 use Rattle.lock.proofs.Levels.{Law, Proper, size-refl}
-use Rattle.lock.proofs.Taking.{take-law, give-law}
-use Rattle.lock.proofs.Exclusion.{Exclusive, take-exclusive, give-exclusive}
+use Rattle.lock.proofs.Taking.{move-law}
+use Rattle.lock.proofs.Exclusion.{Exclusive, move-exclusive}
 use Rattle.task.specs.State.{waitFor}
 use Rattle.task.specs.Turns.{unmarked}
 use Rattle.task.specs.declared.Task.{Task}
@@ -149,9 +150,9 @@ module _ (day : ℕ) (k : State) (h : StateOk day k) (c : Call) (last : Asking) 
   did-books (everyone m f l g) = every-books day k h c last m f (λ i q. g i q .fair)
   did-books (quiet es e) = quiet-books Nothing (k .locks) es (unmoved k (named c) last) (λ e. e)
   did-books (gave w l e) =
-      quiet-books w _ (k .enabled) (λ v x. rw (no-grants n v x last) (give-law w _ (named c) (k .locks) (proper w l) v x e))
-      (give-exclusive (k .counts .bolts) w _ (named c) (k .locks) (proper w l) e)
+      quiet-books w _ (k .enabled) (λ v x. rw (no-grants n v x last) (move-law Give w _ (named c) (k .locks) (proper w l) e v x))
+      (move-exclusive (k .counts .bolts) Give w _ (named c) (k .locks) (proper w l) e)
   did-books (got w s i z q l e) =
-      rw (z, q) (got-books w i z q s _ (λ v x. take-law w _ (named c) (k .locks) (proper w l) v x e) (take-exclusive (k .counts .bolts) w _ (named c) (k .locks) (proper w l) e))
+      rw (z, q) (got-books w i z q s _ (λ v x. move-law Take w _ (named c) (k .locks) (proper w l) e v x) (move-exclusive (k .counts .bolts) Take w _ (named c) (k .locks) (proper w l) e))
   did-books (waits w i z q l) = rw (z, q) (waits-books w i z q)
   did-books (tried w i z q) = rw (z, q) (tried-books w i z q)

@@ -6,11 +6,12 @@ use Prim.Native.Nat.{ℕ, _+_, _^_, _<_}
 use native.Mathlib.Omega.{arith}
 use borrow.Author.Tests.{eqb-false, not-true}
 use Rattle.lock.specs.Locks.{waiting, level}
+use Rattle.lock.specs.declared.Way.the-variants.{Take}
 use Rattle.lock.specs.declared.Wait.{Wait}
 use Rattle.lock.proofs.Bools.{byEq, contra, both}
 use Rattle.lock.proofs.Levels.{Law}
-use Rattle.lock.proofs.Taking.{take-law}
-use Rattle.lock.proofs.Exclusion.{Exclusive, take-exclusive}
+use Rattle.lock.proofs.Taking.{move-law}
+use Rattle.lock.proofs.Exclusion.{Exclusive, move-exclusive}
 use Rattle.task.specs.State.{wanted}
 use Rattle.task.specs.declared.Task.{Task}
 use Rattle.machine.specs.declared.State.{State}
@@ -62,7 +63,7 @@ module _ (day : ℕ) (k : State) (h : StateOk day k) (last : Asking) (before ask
     unfolding grantTo
     value v x =
         rw (b .ties j lt waits)
-        (take-law (t .wait) _ (wanted t) (q .locks) (wanted-proper day k h q (b .ok) j lt waits) v x (served-free n q j e))
+        (move-law Take (t .wait) _ (wanted t) (q .locks) (wanted-proper day k h q (b .ok) j lt waits) (served-free n q j e) v x)
 
     marks : (v : Wait) (x : ℕ) → grantsIn n v x last (q .granted) + counts v x (last j) ≡ grantsIn n v x last (grantTo j q .granted)
     unfolding grantTo
@@ -93,7 +94,7 @@ module _ (day : ℕ) (k : State) (h : StateOk day k) (last : Asking) (before ask
           asked = λ i l w. byEq i j (λ z. rw z (sub j (mask .0))) (λ z. b .asked i l (rw (other-has i z) at w));
           granted-lt = unfold grantTo in put-lt n j (q .granted) lt (b .granted-lt);
           values = λ v x. rw (← marks v x) (moved-more v (level v (p .locks) x) (grantsIn n v x last (p .granted)) (level v (q .locks) x) (grantsIn n v x last (q .granted)) (level v (grantTo j q .locks) x) (counts v x (last j)) (b .values v x) (value v x));
-          exclusive = unfold grantTo in take-exclusive (k .counts .bolts) (t .wait) _ (wanted t) (q .locks) (wanted-proper day k h q (b .ok) j lt waits) (served-free n q j e) (b .exclusive);
+          exclusive = unfold grantTo in move-exclusive (k .counts .bolts) Take (t .wait) _ (wanted t) (q .locks) (wanted-proper day k h q (b .ok) j lt waits) (served-free n q j e) (b .exclusive);
         }
 
   pub served-books : ServedBooks day k last before asking p p → ServedBooks day k last before asking p (serve n n p)

@@ -6,8 +6,6 @@ ghost use Rattle.calendar.specs.Times.{plus, timeOfDay, until};
 ghost use Rattle.calendar.specs.Dues.{firstDue, lastAllowed, allowed, nextDue};
 
 // Instants, durations and times of day are counted in ticks of one millisecond.
-pub const TICK: u32 = 1;
-
 pub const DAY: u32 = 86_400_000;
 
 pub const LONGEST_DURATION: u32 = 1_000_000_000;

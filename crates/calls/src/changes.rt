@@ -19,6 +19,7 @@ use layout::Mark;
 use layout::Numbers;
 use lock::Locks;
 use lock::Wait;
+use lock::Way;
 use machine::Change;
 use machine::Running;
 use machine::Sort;
@@ -109,8 +110,8 @@ fn asked(w: Wait, waits: bool, h: Head, list: Numbers, t: Task, locks: Locks) ->
     ensures { λ c. ⌜ ((n : ℕ) (ts : List Task) → c ≡ asks n ts w waits (callWith h list) t locks) ⌝ }
 {
     let n = h.len as usize;
-    if locks.is_grantable(w, n, list) {
-        return by_locks(t, locks.take_all(w, n, list), true);
+    if locks.can_move_all(Way::Take, w, n, list) {
+        return by_locks(t, locks.move_all(Way::Take, w, n, list), true);
     }
     if !waits {
         return by_locks(t, locks, false);
@@ -139,7 +140,7 @@ pub(crate) fn change_of(
         Sort::OneTask => by_turn(locks, named_turn(t, clock, now, h)),
         Sort::TheRunner => by_turn(locks, runner_turn(t, now, h)),
         Sort::ListAsked(w, waits) => asked(w, waits, h, list, t, locks),
-        Sort::ListGiven(w) => by_locks(t, locks.give_all(w, n, list), false),
+        Sort::ListGiven(w) => by_locks(t, locks.move_all(Way::Give, w, n, list), false),
         Sort::Declaration => by_locks(t, locks, false),
         Sort::AnInterrupt => by_locks(t, locks, false),
         Sort::EveryTask => by_locks(t, locks, false),

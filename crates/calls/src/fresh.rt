@@ -5,8 +5,11 @@ ghost use Rattle.machine.specs.State.{freshTask, nothing};
 use calendar::Instant;
 use lock::Bolt;
 use lock::Locks;
+use lock::MOST_LOCKS;
 use lock::Wait;
 use machine::Counts;
+use machine::MOST_INTERRUPTS;
+use machine::MOST_TASKS;
 use machine::State;
 use task::Hold;
 use task::Kept;
@@ -46,8 +49,8 @@ pub fn fresh() -> State
     let bolt = empty_bolt();
     let task = fresh_task(0);
     let locks = Locks {
-        semaphores: [0; 16],
-        bolts: [bolt; 16],
+        semaphores: [0; MOST_LOCKS as usize],
+        bolts: [bolt; MOST_LOCKS as usize],
     };
     let counts = Counts {
         tasks: 0,
@@ -56,9 +59,9 @@ pub fn fresh() -> State
         interrupts: 0,
     };
     State {
-        tasks: [task; 32],
+        tasks: [task; MOST_TASKS as usize],
         locks,
-        enabled: [false; 8],
+        enabled: [false; MOST_INTERRUPTS as usize],
         counts,
         clock: 0,
         now: Instant(0),

@@ -13,6 +13,7 @@ ghost use Rattle.calls.specs.Stirring.{isTick, earlier, sooner, quietBef
 use crate::declarations::answered;
 use calendar::Duration;
 use calendar::Instant;
+use layout::RECORD_LENGTH;
 use machine::Running;
 use machine::State;
 use machine::Stepped;
@@ -27,7 +28,7 @@ pub const NEVER: u64 = 4398046511105;
 pub fn is_tick(s: &[u8]) -> bool
     ensures { λ r. ⌜ r ≡ isTick (now (s .entry)) ⌝ }
 {
-    if s.len() != 24 {
+    if s.len() != RECORD_LENGTH {
         return false;
     }
     if s[0] != 84 {

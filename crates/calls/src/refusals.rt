@@ -18,8 +18,12 @@ use layout::Head;
 use layout::Mark;
 use layout::Numbers;
 use lock::Locks;
+use lock::MOST_LOCKS;
 use lock::Wait;
+use lock::Way;
 use machine::Counts;
+use machine::MOST_INTERRUPTS;
+use machine::MOST_TASKS;
 use machine::Running;
 use machine::Sort;
 use record::Read;
@@ -27,6 +31,8 @@ use record::Reading;
 use record::reader::open;
 use record::reader::refuse;
 use record::shape::shape_at;
+use record::kinds::WHEN;
+use record::kinds::WHEN_AFTER;
 use record::times::times_of;
 use serving::ends::is_someone;
 use survey::check::are_below;
@@ -38,10 +44,10 @@ fn has_room(mark: Mark, n: Counts) -> bool
     ensures { λ r. ⌜ r ≡ roomFor mark n ⌝ }
 {
     match mark {
-        Mark::DT => n.tasks < 32,
-        Mark::DS => n.semaphores < 16,
-        Mark::DB => n.bolts < 16,
-        Mark::IT => n.interrupts < 8,
+        Mark::DT => n.tasks < MOST_TASKS,
+        Mark::DS => n.semaphores < MOST_LOCKS,
+        Mark::DB => n.bolts < MOST_LOCKS,
+        Mark::IT => n.interrupts < MOST_INTERRUPTS,
         _ => true,
     }
 }
@@ -58,7 +64,7 @@ fn is_list_declared(n: Counts, w: Wait, h: Head, list: Numbers) -> bool
 fn is_start_declared(n: Counts, h: Head) -> bool
     ensures { λ r. ⌜ r ≡ (ltb (h .number) (n .tasks) && startDeclared n h) ⌝ }
 {
-    let on_interrupt = (h.kind == 3) | (h.kind == 4);
+    let on_interrupt = (h.kind == WHEN) | (h.kind == WHEN_AFTER);
     (h.number < n.tasks) & (!on_interrupt | (h.interrupt < n.interrupts))
 }
 
@@ -177,7 +183,7 @@ pub(crate) fn state_refusal(
         Sort::ListGiven(w) => unless(
             is_someone(r),
             8,
-            unless(locks.is_returnable(w, n, list), unreturnable(w), 0),
+            unless(locks.can_move_all(Way::Give, w, n, list), unreturnable(w), 0),
         ),
         Sort::EveryTask => unless(now.0 < LAST_INSTANT, 15, 0),
         Sort::Declaration => 0,

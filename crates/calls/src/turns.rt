@@ -9,6 +9,8 @@ use calendar::Instant;
 use calendar::Moment;
 use calendar::Start;
 use layout::Head;
+use record::kinds::WHEN;
+use record::kinds::WHEN_AFTER;
 use task::Alarm;
 use task::Plan;
 use task::Schedule;
@@ -64,10 +66,10 @@ fn schedule_of(clock: u32, n: Instant, h: Head, p: u8) -> Schedule
 {
     let kind = h.kind;
     let s = armed(h, p);
-    if kind == 3 {
+    if kind == WHEN {
         return s;
     }
-    if kind == 4 {
+    if kind == WHEN_AFTER {
         return s;
     }
     s.launch(clock, Plan::Clock, start_of(kind, h.first), n)

@@ -68,7 +68,7 @@ pub struct Head {
 pub type Numbers = [u8; 4];
 
 // The bytes of a record.
-pub type Bytes = [u8; 24];
+pub type Bytes = [u8; RECORD_LENGTH];
 
 // Four bytes of a time.
 pub type Octets = [u8; 4];

@@ -1,13 +1,15 @@
 -- Locks that are alike at the declared numbers pass the same tests there, and stay alike under every change.
-use mathlib.Core.Path.{_≡_, refl, ap}
+use mathlib.Core.Path.{_≡_, ap}
 use mathlib.Core.List.{List, [], _∷_}
 use Prim.Native.Nat.{ℕ, _≤_, _<_}
+use Rattle.lock.specs.declared.Way.{Way}
 use Rattle.lock.specs.declared.Wait.{Wait}
 use Rattle.lock.specs.declared.Wait.the-variants.{Nothing, Request, Reserve, Enter}
 use Rattle.lock.specs.declared.Bolt.{Bolt}
 use Rattle.lock.specs.declared.Locks.{Locks}
-use Rattle.lock.specs.Locks.{emptyBolt, valueAt, boltAt, free, taken, takeOne, giveOne, forEach, takeAll, giveAll}
-use Rattle.lock.proofs.Changes.{onValue, onBolt, take-cases, give-cases}
+use Rattle.lock.specs.Locks.{emptyBolt, valueAt, boltAt, canMove, moveOne, forEach, moveAll}
+use Rattle.lock.proofs.Changes.{onValue, onBolt, move-cases}
+use Rattle.lock.proofs.Levels.{Same, can-same}
 use Rattle.lock.proofs.Tables.{Like, like-set}
 
 -- How many numbers of a kind are declared, of s semaphores and b bolts.
@@ -23,19 +25,14 @@ pub record Seen (s b : ℕ) (r r′ : Locks) : Type 0 where
   pub bolts : (x : ℕ) → x < b → boltAt r x ≡ boltAt r′ x
 
 module _ (s b : ℕ) (r r′ : Locks) (h : Seen s b r r′) where
-  pub free-same : (w : Wait) (x : ℕ) → x < below s b w → free w r x ≡ free w r′ x
-  unfolding free
-  free-same Nothing x l = refl
-  free-same Request x l = rw (h .values x l)
-  free-same Reserve x l = rw (h .bolts x l)
-  free-same Enter x l = rw (h .bolts x l)
+  looked : (w : Wait) (x : ℕ) → x < below s b w → Same w r r′ x
+  looked Nothing x l = tt
+  looked Request x l = h .values x l
+  looked Reserve x l = h .bolts x l
+  looked Enter x l = h .bolts x l
 
-  pub taken-same : (w : Wait) (x : ℕ) → x < below s b w → taken w r x ≡ taken w r′ x
-  unfolding taken
-  taken-same Nothing x l = refl
-  taken-same Request x l = rw (h .values x l)
-  taken-same Reserve x l = ap (λ (z : Bolt). z .writer) (h .bolts x l)
-  taken-same Enter x l = rw (h .bolts x l)
+  pub can-alike : (way : Way) (w : Wait) (x : ℕ) → x < below s b w → canMove way w r x ≡ canMove way w r′ x
+  can-alike way w x l = can-same r r′ x way w (looked w x l)
 
 -- Tables of as many places, ms and mb, that are alike there.
 pub record Alike (ms mb s b : ℕ) (r r′ : Locks) : Type 0 where
@@ -69,8 +66,5 @@ module _ (ms mb s b : ℕ) (ls : s ≤ ms) (lb : b ≤ mb) where
   kept-each f k [] r r′ h = h
   kept-each f k (x ∷ l) r r′ h = kept-each f k l (f r x) (f r′ x) (k r r′ x h)
 
-  pub take-alike : (w : Wait) (l : List ℕ) (r r′ : Locks) → Alike ms mb s b r r′ → Alike ms mb s b (takeAll w r l) (takeAll w r′ l)
-  take-alike w = kept-each (takeOne w) (take-cases Kept (λ r r′ x h. h) kept-value kept-bolt w)
-
-  pub give-alike : (w : Wait) (l : List ℕ) (r r′ : Locks) → Alike ms mb s b r r′ → Alike ms mb s b (giveAll w r l) (giveAll w r′ l)
-  give-alike w = kept-each (giveOne w) (give-cases Kept (λ r r′ x h. h) kept-value kept-bolt w)
+  pub move-alike : (way : Way) (w : Wait) (l : List ℕ) (r r′ : Locks) → Alike ms mb s b r r′ → Alike ms mb s b (moveAll way w r l) (moveAll way w r′ l)
+  move-alike way w = kept-each (moveOne way w) (move-cases Kept (λ r r′ x h. h) kept-value kept-bolt way w)

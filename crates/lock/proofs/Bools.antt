@@ -6,6 +6,7 @@ use Prim.Native.Nat.{ℕ, _≤_}
 use native.Mathlib.Decide.{ℕ-discrete}
 use native.Mathlib.Omega.{arith}
 use lib.Dec.{eqb}
+pub use Rattle.record.proofs.Tests.{contra, both}
 use Rattle.lock.specs.Locks.{bit}
 
 -- What a constant part says of a test.
@@ -19,13 +20,6 @@ byBool false f g = g refl
 -- By cases on an equality of numbers.
 pub byEq {ℓ} : {X : Type ℓ} (a b : ℕ) → (a ≡ b → X) → (a ≢ b → X) → X
 byEq a b f g = elim (ℕ-discrete a b) [ yes e ↦ f e | no h ↦ g h ]
-
-pub contra {ℓ} : {X : Type ℓ} {b : Bool} → b ≡ true → b ≡ false → X
-contra p q = absurd (let z : _≡_ {A = ℕ} 0 1 = cc in omega arith)
-
-pub both : (a b : Bool) → (a && b) ≡ true → (a ≡ true) × (b ≡ true)
-both true b e = (refl, e)
-both false b e = contra e refl
 
 pub and-both : {a b : Bool} → a ≡ true → b ≡ true → (a && b) ≡ true
 and-both p q = rw (p, q)

@@ -4,16 +4,14 @@ use mathlib.Core.Logic.{_≢_}
 use mathlib.Core.Bool.{Bool, true, false, not}
 use mathlib.Core.List.{List, [], _∷_}
 use Prim.Native.Nat.{ℕ}
-use lib.Seq.{getD-set-other, set-comm}
 use borrow.Author.Tests.{ne-eqb, not-true}
 use Rattle.record.specs.Lists.{names, distinct}
-use Rattle.lock.specs.declared.Bolt.{Bolt}
 use Rattle.lock.specs.declared.Locks.{Locks}
-use Rattle.lock.specs.Locks.{valueAt, boltAt, emptyBolt, takeOne, giveOne, every, forEach}
+use Rattle.lock.specs.Locks.{moveOne, every, forEach}
 use Rattle.lock.specs.Promises.{EveryIsEach, SameAt, Each, ListIsEach}
 use Rattle.lock.proofs.Bools.{byEq, contra, both, and-both}
 use Rattle.lock.proofs.Lists.{names-head, names-same, every-at}
-use Rattle.lock.proofs.Changes.{onValue, onBolt, take-cases, give-cases}
+use Rattle.lock.proofs.Changes.{Local, move-local}
 
 -- ---- tests
 
@@ -29,36 +27,6 @@ pub every-is-each : EveryIsEach
 every-is-each f l = (λ e x n. every-at f l x e n, every-from f l)
 
 -- ---- changes
-
--- A change at one place: no other place changes, and two of them can change places.
-pub record Local (f : Locks → ℕ → Locks) : Type 0 where
-  pub elsewhere : (r : Locks) (x y : ℕ) → y ≢ x → SameAt (f r x) r y
-  pub swap : (r : Locks) (x y : ℕ) → x ≢ y → f (f r x) y ≡ f (f r y) x
-
-local-none : Local (λ r x. r)
-local-none = record { elsewhere = λ r x y h. record { value = refl; bolt = refl }; swap = λ r x y h. refl }
-
-local-value : (g : ℕ → ℕ) → Local (onValue g)
-local-value g =
-    record {
-      elsewhere = λ r x y h. record { value = getD-set-other (r .semaphores) x y _ 0 h; bolt = refl };
-      swap = λ r x y h. rw (
-        getD-set-other (r .semaphores) x y (g (valueAt r x)) 0 (λ q. h (sym q)),
-        getD-set-other (r .semaphores) y x (g (valueAt r y)) 0 h,
-        set-comm (r .semaphores) x y (g (valueAt r x)) (g (valueAt r y)) h,
-      );
-    }
-
-local-bolt : (g : Bolt → Bolt) → Local (onBolt g)
-local-bolt g =
-    record {
-      elsewhere = λ r x y h. record { value = refl; bolt = getD-set-other (r .bolts) x y _ emptyBolt h };
-      swap = λ r x y h. rw (
-        getD-set-other (r .bolts) x y (g (boltAt r x)) emptyBolt (λ q. h (sym q)),
-        getD-set-other (r .bolts) y x (g (boltAt r y)) emptyBolt h,
-        set-comm (r .bolts) x y (g (boltAt r x)) (g (boltAt r y)) h,
-      );
-    }
 
 same-trans : (r s t : Locks) (x : ℕ) → SameAt r s x → SameAt s t x → SameAt r t x
 same-trans r s t x p q = record { value = p .value ∙ q .value; bolt = p .bolt ∙ q .bolt }
@@ -85,8 +53,4 @@ module _ (f : Locks → ℕ → Locks) (local : Local f) where
   each-of r l d = record { named = named l r d; others = others l r }
 
 pub list-is-each : ListIsEach
-list-is-each =
-    record {
-      takes = λ w. each-of (takeOne w) (take-cases Local local-none local-value local-bolt w);
-      gives = λ w. each-of (giveOne w) (give-cases Local local-none local-value local-bolt w);
-    }
+list-is-each way w = each-of (moveOne way w) (move-local way w)

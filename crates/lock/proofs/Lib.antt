@@ -8,5 +8,4 @@ pub mod Changes
 pub mod Each
 pub mod Tables
 pub mod Alike
-pub mod Room
 pub mod Rests

@@ -7,6 +7,8 @@ use lib.Dec.{ltb, eqb}
 use Rattle.record.specs.Refusals.{mostValue}
 use Rattle.lock.specs.declared.Wait.{Wait}
 use Rattle.lock.specs.declared.Wait.the-variants.{Nothing, Request, Reserve, Enter}
+use Rattle.lock.specs.declared.Way.{Way}
+use Rattle.lock.specs.declared.Way.the-variants.{Take, Give}
 use Rattle.lock.specs.declared.Bolt.{Bolt}
 use Rattle.lock.specs.declared.Locks.{Locks}
 
@@ -65,33 +67,31 @@ level Request r x = valueAt r x
 level Reserve r x = bit (boltAt r x .writer)
 level Enter r x = boltAt r x .readers
 
--- A number can be taken: REQUEST, RESERVE, ENTER.
-unfoldable pub free : Wait → Locks → ℕ → Bool
-free Nothing r x = false
-free Request r x = ltb 0 (valueAt r x)
-free Reserve r x = not (boltAt r x .writer) && eqb (boltAt r x .readers) 0
-free Enter r x = not (boltAt r x .writer) && ltb (boltAt r x .readers) mostValue
+-- A number can be taken: REQUEST, RESERVE, ENTER. Or given back: RELEASE, FREE, LEAVE (else refusal 13, 14, 14).
+unfoldable pub canMove : Way → Wait → Locks → ℕ → Bool
+canMove way Nothing r x = false
+canMove Take Request r x = ltb 0 (valueAt r x)
+canMove Take Reserve r x = not (boltAt r x .writer) && eqb (boltAt r x .readers) 0
+canMove Take Enter r x = not (boltAt r x .writer) && ltb (boltAt r x .readers) mostValue
+canMove Give Request r x = ltb (valueAt r x) mostValue
+canMove Give Reserve r x = boltAt r x .writer
+canMove Give Enter r x = ltb 0 (boltAt r x .readers)
 
--- One number taken.
-unfoldable pub takeOne : Wait → Locks → ℕ → Locks
-takeOne Nothing r x = r
-takeOne Request r x = withValue r x (valueAt r x - 1)
-takeOne Reserve r x = withBolt r x (record { writer = true; readers = boltAt r x .readers })
-takeOne Enter r x = withBolt r x (record { writer = boltAt r x .writer; readers = boltAt r x .readers + 1 })
+-- One number taken, or given back.
+unfoldable pub moveOne : Way → Wait → Locks → ℕ → Locks
+moveOne way Nothing r x = r
+moveOne Take Request r x = withValue r x (valueAt r x - 1)
+moveOne Take Reserve r x = withBolt r x (record { writer = true; readers = boltAt r x .readers })
+moveOne Take Enter r x = withBolt r x (record { writer = boltAt r x .writer; readers = boltAt r x .readers + 1 })
+moveOne Give Request r x = withValue r x (valueAt r x + 1)
+moveOne Give Reserve r x = withBolt r x (record { writer = false; readers = boltAt r x .readers })
+moveOne Give Enter r x = withBolt r x (record { writer = boltAt r x .writer; readers = boltAt r x .readers - 1 })
 
--- A number can be given back: RELEASE, FREE, LEAVE (else refusal 13, 14, 14).
-unfoldable pub taken : Wait → Locks → ℕ → Bool
-taken Nothing r x = false
-taken Request r x = ltb (valueAt r x) mostValue
-taken Reserve r x = boltAt r x .writer
-taken Enter r x = ltb 0 (boltAt r x .readers)
+abbrev pub free : Wait → Locks → ℕ → Bool
+free = canMove Take
 
--- One number given back.
-unfoldable pub giveOne : Wait → Locks → ℕ → Locks
-giveOne Nothing r x = r
-giveOne Request r x = withValue r x (valueAt r x + 1)
-giveOne Reserve r x = withBolt r x (record { writer = false; readers = boltAt r x .readers })
-giveOne Enter r x = withBolt r x (record { writer = boltAt r x .writer; readers = boltAt r x .readers - 1 })
+abbrev pub taken : Wait → Locks → ℕ → Bool
+taken = canMove Give
 
 -- ---- a list of numbers
 
@@ -105,12 +105,19 @@ unfoldable pub forEach : (Locks → ℕ → Locks) → Locks → List ℕ → Lo
 forEach f r [] = r
 forEach f r (x ∷ l) = forEach f (f r x) l
 
--- Every number of the list is free: a list goes whole or not at all.
+-- A list goes whole or not at all.
+abbrev pub canMoveAll : Way → Wait → Locks → List ℕ → Bool
+canMoveAll way w r l = every (canMove way w r) l
+
+abbrev pub moveAll : Way → Wait → Locks → List ℕ → Locks
+moveAll way w r l = forEach (moveOne way w) r l
+
+-- Every number of the list is free.
 abbrev pub grantable : Wait → Locks → List ℕ → Bool
-grantable w r l = every (free w r) l
+grantable = canMoveAll Take
 
 abbrev pub takeAll : Wait → Locks → List ℕ → Locks
-takeAll w r l = forEach (takeOne w) r l
+takeAll = moveAll Take
 
 abbrev pub giveAll : Wait → Locks → List ℕ → Locks
-giveAll w r l = forEach (giveOne w) r l
+giveAll = moveAll Give

@@ -6,8 +6,9 @@ use mathlib.Core.List.{List}
 use Prim.Native.Nat.{ℕ}
 use Rattle.record.specs.Lists.{names, distinct}
 use Rattle.lock.specs.declared.Wait.{Wait}
+use Rattle.lock.specs.declared.Way.{Way}
 use Rattle.lock.specs.declared.Locks.{Locks}
-use Rattle.lock.specs.Locks.{valueAt, boltAt, takeOne, giveOne, every, forEach}
+use Rattle.lock.specs.Locks.{valueAt, boltAt, moveOne, every, forEach}
 
 -- A list passes a test exactly when each number that it names does.
 abbrev pub EveryIsEach : Type 0
@@ -24,7 +25,6 @@ pub record Each (f : Locks → ℕ → Locks) (r : Locks) (l : List ℕ) : Type 
   pub named : (x : ℕ) → names l x ≡ true → SameAt (forEach f r l) (f r x) x
   pub others : (x : ℕ) → names l x ≡ false → SameAt (forEach f r l) r x
 
--- Lists that name no number twice are taken and given back so.
-pub record ListIsEach : Type 0 where
-  pub takes : (w : Wait) (r : Locks) (l : List ℕ) → distinct l ≡ true → Each (takeOne w) r l
-  pub gives : (w : Wait) (r : Locks) (l : List ℕ) → distinct l ≡ true → Each (giveOne w) r l
+-- A list that names no number twice is taken and given back so.
+abbrev pub ListIsEach : Type 0
+ListIsEach = (way : Way) (w : Wait) (r : Locks) (l : List ℕ) → distinct l ≡ true → Each (moveOne way w) r l

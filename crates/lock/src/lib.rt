@@ -5,7 +5,13 @@ ghost use Prim.Native.Nat.{_<_, _≤_};
 ghost use lib.ListN.{take};
 ghost use lib.Dec.{ltb};
 ghost use Rattle.record.specs.Lists.{distinct};
-ghost use Rattle.lock.specs.Locks.{waiting, free, takeOne, taken, giveOne, every, grantable, takeAll, giveAll, mostLocks};
+ghost use Rattle.lock.specs.Locks.{mostLocks, waiting, canMove, moveOne, every, canMoveAll, moveAll};
+use layout::Numbers;
+
+// The places of the table of semaphores, and of that of bolts.
+pub const MOST_LOCKS: u8 = 16;
+
+const MOST_VALUE: u16 = record::MOST_VALUE as u16;
 
 // What a task waits for.
 pub enum Wait {
@@ -15,18 +21,21 @@ pub enum Wait {
     Enter,
 }
 
+// A list is taken, or given back.
+pub enum Way {
+    Take,
+    Give,
+}
+
 pub struct Bolt {
     pub writer: bool,
     pub readers: u16,
 }
 
 pub struct Locks {
-    pub semaphores: [u16; 16],
-    pub bolts: [Bolt; 16],
+    pub semaphores: [u16; MOST_LOCKS as usize],
+    pub bolts: [Bolt; MOST_LOCKS as usize],
 }
-
-// The largest value of a semaphore, and the most readers of a bolt.
-const MOST_VALUE: u16 = 65_535;
 
 pub fn is_waiting(w: Wait) -> bool
     ensures { λ r. ⌜ r ≡ waiting w ⌝ }
@@ -40,150 +49,93 @@ pub fn is_waiting(w: Wait) -> bool
 }
 
 impl Locks {
-    // Whether number x can be taken.
-    pub fn is_free(self, w: Wait, x: usize) -> bool
+    // Whether number x can be taken, or given back.
+    pub fn can_move(self, way: Way, w: Wait, x: usize) -> bool
         requires { ⌜ x < mostLocks ⌝ }
-        ensures { λ r. ⌜ r ≡ free w self x ⌝ }
+        ensures { λ r. ⌜ r ≡ canMove way w self x ⌝ }
     {
         let v = self.semaphores[x];
         let b = self.bolts[x];
         let writer = b.writer;
         let readers = b.readers;
-        match w {
-            Wait::Nothing => false,
-            Wait::Request => 0 < v,
-            Wait::Reserve => if writer { false } else { readers == 0 },
-            Wait::Enter => if writer { false } else { readers < MOST_VALUE },
+        match way {
+            Way::Take => match w {
+                Wait::Nothing => false,
+                Wait::Request => 0 < v,
+                Wait::Reserve => if writer { false } else { readers == 0 },
+                Wait::Enter => if writer { false } else { readers < MOST_VALUE },
+            },
+            Way::Give => match w {
+                Wait::Nothing => false,
+                Wait::Request => v < MOST_VALUE,
+                Wait::Reserve => writer,
+                Wait::Enter => 0 < readers,
+            },
         }
     }
 
-    // Whether number x can be given back.
-    pub fn is_taken(self, w: Wait, x: usize) -> bool
+    fn move_one(mut self, way: Way, w: Wait, x: usize) -> Locks
         requires { ⌜ x < mostLocks ⌝ }
-        ensures { λ r. ⌜ r ≡ taken w self x ⌝ }
+        requires { ⌜ canMove way w self x ≡ true ⌝ }
+        ensures { λ r. ⌜ r ≡ moveOne way w self x ⌝ }
     {
         let v = self.semaphores[x];
-        let b = self.bolts[x];
-        match w {
-            Wait::Nothing => false,
-            Wait::Request => v < MOST_VALUE,
-            Wait::Reserve => b.writer,
-            Wait::Enter => 0 < b.readers,
-        }
-    }
-
-    fn take_one(mut self, w: Wait, x: usize) -> Locks
-        requires { ⌜ x < mostLocks ⌝ }
-        requires { ⌜ free w self x ≡ true ⌝ }
-        ensures { λ r. ⌜ r ≡ takeOne w self x ⌝ }
-    {
+        let mut b = self.bolts[x];
         match w {
             Wait::Nothing => self,
             Wait::Request => {
-                let v = self.semaphores[x];
-                self.semaphores[x] = v - 1;
+                self.semaphores[x] = match way {
+                    Way::Take => v - 1,
+                    Way::Give => v + 1,
+                };
                 self
             }
             Wait::Reserve => {
-                let mut b = self.bolts[x];
-                b.writer = true;
+                b.writer = match way {
+                    Way::Take => true,
+                    Way::Give => false,
+                };
                 self.bolts[x] = b;
                 self
             }
             Wait::Enter => {
-                let mut b = self.bolts[x];
-                b.readers = b.readers + 1;
+                b.readers = match way {
+                    Way::Take => b.readers + 1,
+                    Way::Give => b.readers - 1,
+                };
                 self.bolts[x] = b;
                 self
             }
         }
     }
 
-    fn give_one(mut self, w: Wait, x: usize) -> Locks
-        requires { ⌜ x < mostLocks ⌝ }
-        requires { ⌜ taken w self x ≡ true ⌝ }
-        ensures { λ r. ⌜ r ≡ giveOne w self x ⌝ }
-    {
-        match w {
-            Wait::Nothing => self,
-            Wait::Request => {
-                let v = self.semaphores[x];
-                self.semaphores[x] = v + 1;
-                self
-            }
-            Wait::Reserve => {
-                let mut b = self.bolts[x];
-                b.writer = false;
-                self.bolts[x] = b;
-                self
-            }
-            Wait::Enter => {
-                let mut b = self.bolts[x];
-                b.readers = b.readers - 1;
-                self.bolts[x] = b;
-                self
-            }
-        }
-    }
-
-    // Whether each of the first n numbers of a list can be taken.
-    pub fn is_grantable(self, w: Wait, n: usize, list: [u8; 4]) -> bool
+    // Whether each of the first n numbers of a list can be taken, or given back.
+    pub fn can_move_all(self, way: Way, w: Wait, n: usize, list: Numbers) -> bool
         requires { ⌜ n ≤ 4 ⌝ }
         requires { ⌜ every (λ x. ltb x mostLocks) (take n list) ≡ true ⌝ }
-        ensures { λ r. ⌜ r ≡ grantable w self (take n list) ⌝ }
+        ensures { λ r. ⌜ r ≡ canMoveAll way w self (take n list) ⌝ }
     {
-        for found in 0..n {
-            let x = list[found] as usize;
-            if !self.is_free(w, x) {
+        for i in 0..n {
+            let x = list[i] as usize;
+            if !self.can_move(way, w, x) {
                 return false;
             }
         }
         true
     }
 
-    // Whether each of the first n numbers of a list can be given back.
-    pub fn is_returnable(self, w: Wait, n: usize, list: [u8; 4]) -> bool
-        requires { ⌜ n ≤ 4 ⌝ }
-        requires { ⌜ every (λ x. ltb x mostLocks) (take n list) ≡ true ⌝ }
-        ensures { λ r. ⌜ r ≡ every (taken w self) (take n list) ⌝ }
-    {
-        for held in 0..n {
-            let x = list[held] as usize;
-            if !self.is_taken(w, x) {
-                return false;
-            }
-        }
-        true
-    }
-
-    // The first n numbers of a list, each taken once.
-    pub fn take_all(self, w: Wait, n: usize, list: [u8; 4]) -> Locks
+    // The first n numbers of a list, each taken or given back once.
+    pub fn move_all(self, way: Way, w: Wait, n: usize, list: Numbers) -> Locks
         requires { ⌜ n ≤ 4 ⌝ }
         requires { ⌜ every (λ x. ltb x mostLocks) (take n list) ≡ true ⌝ }
         requires { ⌜ distinct (take n list) ≡ true ⌝ }
-        requires { ⌜ grantable w self (take n list) ≡ true ⌝ }
-        ensures { λ r. ⌜ r ≡ takeAll w self (take n list) ⌝ }
+        requires { ⌜ canMoveAll way w self (take n list) ≡ true ⌝ }
+        ensures { λ r. ⌜ r ≡ moveAll way w self (take n list) ⌝ }
     {
         let mut r = self;
-        for granted in 0..n {
-            let x = list[granted] as usize;
-            r = r.take_one(w, x);
-        }
-        r
-    }
-
-    // The first n numbers of a list, each given back once.
-    pub fn give_all(self, w: Wait, n: usize, list: [u8; 4]) -> Locks
-        requires { ⌜ n ≤ 4 ⌝ }
-        requires { ⌜ every (λ x. ltb x mostLocks) (take n list) ≡ true ⌝ }
-        requires { ⌜ distinct (take n list) ≡ true ⌝ }
-        requires { ⌜ every (taken w self) (take n list) ≡ true ⌝ }
-        ensures { λ r. ⌜ r ≡ giveAll w self (take n list) ⌝ }
-    {
-        let mut r = self;
-        for returned in 0..n {
-            let x = list[returned] as usize;
-            r = r.give_one(w, x);
+        for j in 0..n {
+            let x = list[j] as usize;
+            r = r.move_one(way, w, x);
         }
         r
     }

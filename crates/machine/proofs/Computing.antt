@@ -8,7 +8,7 @@ use Rattle.layout.specs.Fields.{headOf, listOf, bytesOf}
 use Rattle.record.specs.Lists.{allZero, names, distinct}
 use Rattle.record.specs.Refusals.{uses, cleanNames, cleanStart, ranged, formed, listed, endTimed, firstTimed, startTimed, timed, shape, times}
 use Rattle.record.specs.Reading.{opened}
-use Rattle.lock.specs.Locks.{level, free, takeOne, taken, giveOne, every, forEach}
+use Rattle.lock.specs.Locks.{level, canMove, moveOne, every, forEach}
 use Rattle.task.specs.Schedules.{advance, launch}
 use Rattle.task.specs.Turns.{dueIf, endIf, preventTurn, suspendTurn, continueTurn, resumeTurn, wake, fallTurn, triggerTurn}
 use Rattle.machine.specs.declared.Answer.{Answer}
@@ -27,5 +27,5 @@ use Rattle.machine.specs.Log.{final, log}
 use Rattle.machine.specs.Marked.{answers}
 
 unfoldable pub computed : List (List ℕ) → List Answer
-unfolding timeOfDay until firstDue lastAllowed allowed nextDue among headOf listOf bytesOf allZero names distinct uses cleanNames cleanStart ranged formed listed endTimed firstTimed startTimed timed shape times opened level free takeOne taken giveOne every forEach advance launch dueIf endIf preventTurn suspendTurn continueTurn resumeTurn wake fallTurn triggerTurn has setOf freshTask nothing urgency mostUrgent runningOf couldBeGranted changed onlyEnabled everyTurn grantTo serve scheduleOk taskOk allBelow countsOk nobodyServable valid declares declaredBy roomFor formalRefusal admittedIf refusalBy addTask addSemaphore addBolt addInterrupt declaration scheduleOf activateTurn namedTurn runnerTurn asks changeOf trigger interruptBy tick workBy refuse finish declared carryOut settle step final log
+unfolding timeOfDay until firstDue lastAllowed allowed nextDue among headOf listOf bytesOf allZero names distinct uses cleanNames cleanStart ranged formed listed endTimed firstTimed startTimed timed shape times opened level canMove moveOne every forEach advance launch dueIf endIf preventTurn suspendTurn continueTurn resumeTurn wake fallTurn triggerTurn has setOf freshTask nothing urgency mostUrgent runningOf couldBeGranted changed onlyEnabled everyTurn grantTo serve scheduleOk taskOk allBelow countsOk nobodyServable valid declares declaredBy roomFor formalRefusal admittedIf refusalBy addTask addSemaphore addBolt addInterrupt declaration scheduleOf activateTurn namedTurn runnerTurn asks changeOf trigger interruptBy tick workBy refuse finish declared carryOut settle step final log
 computed rs = answers rs

@@ -15,12 +15,14 @@ use Rattle.layout.specs.declared.Form.the-variants.{DeclaredPriority, Preset}
 use Rattle.layout.specs.declared.Mark.the-variants.{DT, DS, DB, IT, DC}
 use Rattle.layout.specs.declared.Call.{Call}
 use Rattle.lock.specs.Locks.{emptyBolt, waiting, valueAt, boltAt, withValue, withBolt, level, free}
+use Rattle.lock.specs.declared.Way.the-variants.{Take}
 use Rattle.lock.specs.declared.Wait.{Wait}
 use Rattle.lock.specs.declared.Wait.the-variants.{Nothing, Request, Reserve, Enter}
 use Rattle.lock.specs.declared.Locks.{Locks}
 use Rattle.lock.proofs.Bools.{byBool, byEq, contra, both, and-both}
 use Rattle.lock.proofs.Lists.{every-below, every-more}
-use Rattle.lock.proofs.Levels.{SameSize, size-refl, size-value, size-bolt, value-same, value-other, bolt-same, bolt-other, free-value, free-bolt}
+use Rattle.lock.proofs.Levels.{SameSize, size-refl, size-value, size-bolt, value-same, value-other, bolt-same, bolt-other}
+use Rattle.lock.proofs.Alike.{can-alike}
 use Rattle.task.specs.State.{noTask, wanted}
 use Rattle.task.specs.declared.Plan.{Plan}
 use Rattle.task.specs.declared.Plan.the-variants.{None, Clock, Armed, Triggered}
@@ -34,6 +36,7 @@ use Rattle.machine.specs.Test.{isPriority, termsOk, listenerOk, nextOk, 
 use Rattle.machine.specs.Calls.{addTask, addSemaphore, addBolt, addInterrupt}
 use Rattle.machine.proofs.Passed.{Passed, Fits, room-task, room-semaphore, room-bolt, room-interrupt}
 use Rattle.machine.proofs.Facts.{TaskOk, Bounded, bounded-of, StateOk}
+use Rattle.machine.proofs.Looks.{count-below}
 
 -- ---- with more declared
 
@@ -184,10 +187,8 @@ module _ (day : ℕ) (k : State) (h : StateOk day k) (c : Call) where
       unused
     where
       unused : (w : Wait) (y : ℕ) → y < countOf (k .counts) w → free w (withValue (k .locks) (k .counts .semaphores) (c .head .first)) y ≡ free w (k .locks) y
-      unused Nothing y l = unfold free in refl
-      unused Request y l = free-value Request (k .locks) _ _ y (λ z. omega arith)
-      unused Reserve y l = unfold free in refl
-      unused Enter y l = unfold free in refl
+      unused w y l =
+          can-alike _ _ _ _ (record { values = λ x q. value-other (k .locks) _ _ x (λ z. omega arith); bolts = λ x q. refl }) Take w y (rw (count-below (k .counts) w) at l)
 
   pub bolt-added : Passed day DB k c → StateOk day (addBolt k)
   unfolding addBolt
@@ -202,10 +203,8 @@ module _ (day : ℕ) (k : State) (h : StateOk day k) (c : Call) where
       unused
     where
       unused : (w : Wait) (y : ℕ) → y < countOf (k .counts) w → free w (withBolt (k .locks) (k .counts .bolts) emptyBolt) y ≡ free w (k .locks) y
-      unused Nothing y l = unfold free in refl
-      unused Request y l = unfold free in refl
-      unused Reserve y l = free-bolt Reserve (k .locks) _ emptyBolt y (λ z. omega arith)
-      unused Enter y l = free-bolt Enter (k .locks) _ emptyBolt y (λ z. omega arith)
+      unused w y l =
+          can-alike _ _ _ _ (record { values = λ x q. refl; bolts = λ x q. bolt-other (k .locks) _ emptyBolt x (λ z. omega arith) }) Take w y (rw (count-below (k .counts) w) at l)
 
   pub interrupt-added : Passed day IT k c → StateOk day (addInterrupt k)
   unfolding addInterrupt

@@ -10,11 +10,12 @@ use Rattle.calendar.specs.Limits.{lastInstant}
 use Rattle.calendar.specs.declared.Instant.{Instant}
 use Rattle.record.specs.Refusals.{named}
 use Rattle.layout.specs.declared.Call.{Call}
+use Rattle.lock.specs.declared.Way.the-variants.{Take, Give}
 use Rattle.lock.specs.declared.Wait.{Wait}
 use Rattle.lock.specs.declared.Locks.{Locks}
 use Rattle.lock.proofs.Bools.{byEq}
 use Rattle.lock.proofs.Levels.{SameSize, size-refl}
-use Rattle.lock.proofs.Taking.{take-size, take-most, give-size, give-most}
+use Rattle.lock.proofs.Taking.{move-size, move-most}
 use Rattle.task.specs.State.{noTask, waitFor}
 use Rattle.task.specs.declared.Task.{Task}
 use Rattle.task.specs.declared.Turn.{Turn}
@@ -87,10 +88,10 @@ module _ (day : ℕ) (k : State) (h : StateOk day k) where
   did-ok (quiet es e) = locks-ok (k .locks) es 0 e (size-refl (k .locks)) (h .bounded)
   did-ok {c} (gave w l e) =
       let p = proper-list day k h (k .locks) (size-refl (k .locks)) w (c .head .len) (named c) l in
-      locks-ok _ (k .enabled) 0 refl (give-size w (named c) (k .locks)) (λ v x q. give-most v w _ (named c) (k .locks) x p e (h .bounded v x q))
+      locks-ok _ (k .enabled) 0 refl (move-size Give w (named c) (k .locks)) (λ v x q. move-most Give w _ (named c) (k .locks) p e v x (h .bounded v x q))
   did-ok {c} (got w s i z r l e) =
       let p = proper-list day k h (k .locks) (size-refl (k .locks)) w (c .head .len) (named c) l in
-      locks-ok _ (k .enabled) _ refl (take-size w (named c) (k .locks)) (λ v x q. take-most v w _ (named c) (k .locks) x p e (h .bounded v x q))
+      locks-ok _ (k .enabled) _ refl (move-size Take w (named c) (k .locks)) (λ v x q. move-most Take w _ (named c) (k .locks) p e v x (h .bounded v x q))
   did-ok {c} (waits w i z r l) =
       let u = runs k i r in
       one-ok i _ (u .0) (wait-ok day (k .counts) w (c .head .len) (c .list) (taskAt (k .tasks) i) (u .1) l (h .tasks-ok i (u .0)))

@@ -12,13 +12,15 @@ use Rattle.record.specs.Refusals.{mostValue, named, before}
 use Rattle.layout.specs.declared.Mark.{Mark}
 use Rattle.layout.specs.declared.Mark.the-variants.{AC, TE, SU, CO}
 use Rattle.layout.specs.declared.Call.{Call}
-use Rattle.lock.specs.Locks.{waiting, free, taken, every, valueAt, boltAt}
+use Rattle.lock.specs.Locks.{waiting, taken, every, canMoveAll, valueAt, boltAt}
+use Rattle.lock.specs.declared.Way.{Way}
+use Rattle.lock.specs.declared.Way.the-variants.{Take, Give}
 use Rattle.lock.specs.declared.Wait.{Wait}
 use Rattle.lock.specs.declared.Wait.the-variants.{Nothing, Request, Reserve, Enter}
 use Rattle.lock.specs.declared.Locks.{Locks}
 use Rattle.lock.proofs.Bools.{both}
 use Rattle.lock.proofs.Lists.{every-below}
-use Rattle.lock.proofs.Alike.{below, Seen, free-same, taken-same}
+use Rattle.lock.proofs.Alike.{below, Seen, can-alike}
 use Rattle.task.specs.State.{wanted}
 use Rattle.task.specs.declared.Task.{Task}
 use Rattle.machine.specs.declared.Counts.{Counts}
@@ -66,20 +68,19 @@ module _ (n : Counts) (ts ts′ : List Task) (same : (i : ℕ) → i < n .tasks 
   running-same = scan-same (n .tasks) _ _ _ _ (λ i l. rw (same i l)) urgency-same
 
   module _ (r r′ : Locks) (seen : Seen (n .semaphores) (n .bolts) r r′) where
+    pub moves-same : (way : Way) (w : Wait) (l : List ℕ) → every (λ x. ltb x (countOf n w)) l ≡ true → canMoveAll way w r l ≡ canMoveAll way w r′ l
+    moves-same way w l e =
+        every-below _ _ (countOf n w) l e (λ x lt. can-alike _ _ r r′ seen way w x (rw (count-below n w) at lt))
+
     pub could-same : (q : ℕ) (w : Wait) (l : List ℕ) → every (λ x. ltb x (countOf n w)) l ≡ true
         → couldBeGranted (n .tasks) ts r q w l ≡ couldBeGranted (n .tasks) ts′ r′ q w l
     unfolding couldBeGranted
-    could-same q w l e =
-        every-below (free w r) (free w r′) (countOf n w) l e (λ x lt. free-same _ _ r r′ seen w x (rw (count-below n w) at lt))
+    could-same q w l e = moves-same Take w l e
 
     pub servable-same : (i : ℕ) → i < n .tasks → Listed n (taskAt ts i) → servable (n .tasks) ts r i ≡ servable (n .tasks) ts′ r′ i
     servable-same i l h =
         let t = taskAt ts i in
         rw (← same i l) (and-then (waiting (t .wait)) _ _ (λ w. could-same (t .current) (t .wait) (wanted t) (h w)))
-
-    pub taken-all-same : (w : Wait) (l : List ℕ) → every (λ x. ltb x (countOf n w)) l ≡ true → every (taken w r) l ≡ every (taken w r′) l
-    taken-all-same w l e =
-        every-below (taken w r) (taken w r′) (countOf n w) l e (λ x lt. taken-same _ _ r r′ seen w x (rw (count-below n w) at lt))
 
 -- ---- the test of a kernel, in three parts
 
@@ -142,7 +143,7 @@ module _ (k : State) (ts : List Task) (r : Locks) (is : List Bool)
   task-same i e = same i (ltb-true i (k .counts .tasks) e)
 
   gives-same : (w : Wait) (c : Call) → listDeclared (k .counts) w c ≡ true → every (taken w (k .locks)) (named c) ≡ every (taken w r) (named c)
-  gives-same w c e = taken-all-same (k .counts) (k .tasks) ts same (k .locks) r seen w (named c) e
+  gives-same w c e = moves-same (k .counts) (k .tasks) ts same (k .locks) r seen Give w (named c) e
 
   -- What is given back, where the call is of a sort.
   given-same : (s : Sort) (c : Call) → declaredBy s (k .counts) c ≡ true

@@ -5,10 +5,11 @@ use Prim.Native.Nat.{ℕ, zero, suc, _<_}
 use native.Mathlib.Omega.{arith}
 use lib.ListN.{set}
 use lib.Seq.{getD-set-same, getD-set-other}
+use Rattle.lock.specs.declared.Way.the-variants.{Take}
 use Rattle.lock.specs.declared.Locks.{Locks}
 use Rattle.lock.proofs.Bools.{byEq, contra}
 use Rattle.lock.proofs.Tables.{Like, like-set}
-use Rattle.lock.proofs.Alike.{Alike, seen, take-alike}
+use Rattle.lock.proofs.Alike.{Alike, seen, move-alike}
 use Rattle.task.specs.State.{noTask, wanted, waitOver}
 use Rattle.task.specs.declared.Task.{Task}
 use Rattle.task.proofs.Waits.{NoNewWait}
@@ -61,7 +62,7 @@ module _ (n : Counts) (f : Fits n) where
       let t = taskAt (p .tasks) i in
       rw (← h .tasks .below i l, ← g) (
         pair-set (p .tasks) (p′ .tasks) (p .locks) (p′ .locks) _ _ h
-            (take-alike mostSemaphores mostBolts (n .semaphores) (n .bolts) (f .semaphores) (f .bolts) (t .wait) (wanted t) (p .locks) (p′ .locks) (h .locks))
+            (move-alike mostSemaphores mostBolts (n .semaphores) (n .bolts) (f .semaphores) (f .bolts) Take (t .wait) (wanted t) (p .locks) (p′ .locks) (h .locks))
             i (waitOver t) (waitOver t) (λ m. refl) (listed-over n t),
         refl,
       )

@@ -10,10 +10,11 @@ use lib.Dec.{ltb}
 use lib.ListN.{length, length-set, List·getD-eq-default}
 use lib.Seq.{getD-set-same, getD-set-other}
 use borrow.Author.Tests.{ltb-true, ltb-false}
+use Rattle.lock.specs.declared.Way.the-variants.{Take}
 use Rattle.lock.specs.Locks.{bit, waiting, grantable}
 use Rattle.lock.proofs.Bools.{byBool, byEq, contra, both, bit-le}
 use Rattle.lock.proofs.Levels.{Proper, SameSize}
-use Rattle.lock.proofs.Taking.{take-size, take-most}
+use Rattle.lock.proofs.Taking.{move-size, move-most}
 use Rattle.task.specs.State.{noTask, unheld, isKept, wanted, waitOver}
 use Rattle.task.specs.declared.Task.{Task}
 use Rattle.task.proofs.Fairness.{rest-facts}
@@ -143,11 +144,11 @@ module _ (day : ℕ) (k : State) (h : StateOk day k) where
       record {
         tasks-size = s .0;
         locks-size = s .1;
-        bounded = λ v x q. unfold grantTo in take-most v (taskAt (p .tasks) j .wait) _ (wanted (taskAt (p .tasks) j)) (p .locks) x (wanted-proper p o j l w) (served-free (k .counts .tasks) p j e) (o .bounded v x q);
+        bounded = λ v x q. unfold grantTo in move-most Take (taskAt (p .tasks) j .wait) _ (wanted (taskAt (p .tasks) j)) (p .locks) (wanted-proper p o j l w) (served-free (k .counts .tasks) p j e) v x (o .bounded v x q);
         tasks-ok = λ i q. byEq i j (λ z. rw (z, grant-at (k .counts .tasks) p j e) (over-ok day (k .counts) _ (o .tasks-ok j l))) (λ z. rw (grant-other p j i z) (o .tasks-ok i q));
       }
     where
       sizes : (p : Served) (j : ℕ) → ServedOk day k p → (length (grantTo j p .tasks) ≡ length (k .tasks)) × SameSize (k .locks) (grantTo j p .locks)
       sizes p j o = unfold grantTo in
-          let t = take-size (taskAt (p .tasks) j .wait) (wanted (taskAt (p .tasks) j)) (p .locks) in
+          let t = move-size Take (taskAt (p .tasks) j .wait) (wanted (taskAt (p .tasks) j)) (p .locks) in
           (length-set (p .tasks) j _ ∙ o .tasks-size, record { semaphores = t .semaphores ∙ o .locks-size .semaphores; bolts = t .bolts ∙ o .locks-size .bolts })

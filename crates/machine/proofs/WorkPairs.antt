@@ -16,11 +16,12 @@ use Rattle.layout.specs.Marks.{is as bears}
 use Rattle.layout.specs.declared.Mark.{Mark}
 use Rattle.layout.specs.declared.Mark.the-variants.{AC, TE, SU, PR, RE, TG, EI}
 use Rattle.lock.specs.Locks.{giveAll}
+use Rattle.lock.specs.declared.Way.the-variants.{Take, Give}
 use Rattle.lock.specs.declared.Wait.{Wait}
 use Rattle.lock.specs.declared.Locks.{Locks}
 use Rattle.lock.proofs.Bools.{byBool, contra, both}
 use Rattle.lock.proofs.Tables.{Like, like-set, like-take, like-front}
-use Rattle.lock.proofs.Alike.{Alike, Seen, seen, take-alike, give-alike}
+use Rattle.lock.proofs.Alike.{Alike, Seen, seen, move-alike}
 use Rattle.task.specs.State.{noTask, waitFor}
 use Rattle.task.specs.Turns.{unmarked}
 use Rattle.task.specs.declared.Task.{Task}
@@ -214,7 +215,7 @@ module _ (k : State) (ts : List Task) (r : Locks) (is : List Bool) (f : Fits (k 
     ask-pair i l =
         byBool (couldBeGranted (n .tasks) (k .tasks) (k .locks) (taskAt (k .tasks) i .current) w (named c))
         (λ b. rw (b, sym (could i l) ∙ b)
-        (locks-pair i _ _ true (take-alike mostSemaphores mostBolts (n .semaphores) (n .bolts) (f .semaphores) (f .bolts) w (named c) (k .locks) r (h .locks))))
+        (locks-pair i _ _ true (move-alike mostSemaphores mostBolts (n .semaphores) (n .bolts) (f .semaphores) (f .bolts) Take w (named c) (k .locks) r (h .locks))))
         (λ b. rw (b, sym (could i l) ∙ b)
         (byBool waits (λ q. rw q (one-pair i (wait (taskAt (k .tasks) i)) (wait (taskAt ts i)) (ap wait (h .tasks .below i l)) (λ z. e)))
         (λ q. rw q (locks-pair i (k .locks) r false (h .locks)))))
@@ -244,6 +245,6 @@ module _ (k : State) (ts : List Task) (r : Locks) (is : List Bool) (f : Fits (k 
       runner-pair (λ z i. changed z i (asks (n .tasks) (z .tasks) w b c (taskAt (z .tasks) i) (z .locks))) (ask-pair w b c e) a
   work-pair day c (ListGiven w) e a =
       runner-pair (λ z i. changed z i (byLocks (taskAt (z .tasks) i) (giveAll w (z .locks) (named c)) false))
-      (λ i l. locks-pair i _ _ false (give-alike mostSemaphores mostBolts (n .semaphores) (n .bolts) (f .semaphores) (f .bolts) w (named c) (k .locks) r (h .locks))) a
+      (λ i l. locks-pair i _ _ false (move-alike mostSemaphores mostBolts (n .semaphores) (n .bolts) (f .semaphores) (f .bolts) Give w (named c) (k .locks) r (h .locks))) a
   work-pair day c AnInterrupt e a = interrupt-pair day (c .head .mark) (c .head .number) (ltb-true _ (n .interrupts) e)
   work-pair day c EveryTask e a = tick-pair

@@ -4,6 +4,10 @@ use lock::Locks;
 use lock::Wait;
 use task::Task;
 
+pub const MOST_TASKS: u8 = 32;
+
+pub const MOST_INTERRUPTS: u8 = 8;
+
 // What a mark is about.
 pub enum Sort {
     // DT, DS, DB, IT, DC
@@ -42,9 +46,9 @@ pub struct Counts {
 }
 
 pub struct State {
-    pub tasks: [Task; 32],
+    pub tasks: [Task; MOST_TASKS as usize],
     pub locks: Locks,
-    pub enabled: [bool; 8],
+    pub enabled: [bool; MOST_INTERRUPTS as usize],
     pub counts: Counts,
     // The time of day at instant 0.
     pub clock: u32,

@@ -9,9 +9,9 @@ ghost use Rattle.machine.specs.Log.{final};
 ghost use Rattle.lines.specs.Lines.{longestLine};
 ghost use Rattle.script.specs.Records.{records};
 use kernel::Kernel;
+use layout::RECORD_LENGTH;
 use libc::STDIN_FILENO;
 use libc::STDOUT_FILENO;
-use script::run::RECORD_LENGTH;
 use script::run::run;
 
 // The kernel after some records, and whether their lines could be written.

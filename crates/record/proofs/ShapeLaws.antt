@@ -21,6 +21,7 @@ use Rattle.layout.specs.Fields.{recordLength, byte, word, headOf, listOf, callO
 use Rattle.record.specs.Lists.{allZero, stretch}
 use Rattle.record.specs.Reading.{callWith}
 use Rattle.record.specs.Refusals.{mostNumbers, Used, plain, start, startFormed, orZero, cleanNames, cleanStart, ranged, uses, formedAs, formed, listed}
+use Rattle.record.proofs.Tests.{both}
 use Rattle.layout.proofs.Form as FormT
 
 -- Two tests are one if each gives the other.
@@ -28,10 +29,6 @@ same-test : (a b : Bool) → (a ≡ true → b ≡ true) → (b ≡ true → a �
 same-test true b f g = sym (f refl)
 same-test false true f g = g refl
 same-test false false f g = refl
-
-both : (a b : Bool) → (a && b) ≡ true → (a ≡ true) × (b ≡ true)
-both true b e = (refl, e)
-both false b e = absurd (mathlib.Core.Bool.false≢true e)
 
 -- n bytes from a on are zero.
 unfoldable zeroRun : List ℕ → ℕ → ℕ → Bool

@@ -3,18 +3,23 @@ ghost use mathlib.Core.Path.{_≡_};
 ghost use mathlib.Core.Bool.{_||_};
 ghost use Rattle.record.specs.Refusals.{onInterrupt, atTime, afterDuration, needsPeriod};
 
+// The start kinds that wait for an interrupt.
+pub const WHEN: u8 = 3;
+
+pub const WHEN_AFTER: u8 = 4;
+
 // Whether a start waits for an interrupt.
 pub(crate) fn is_on_interrupt(kind: u8) -> bool
     ensures { λ r. ⌜ r ≡ onInterrupt kind ⌝ }
 {
-    (kind == 3) | (kind == 4)
+    (kind == WHEN) | (kind == WHEN_AFTER)
 }
 
 // Whether a start's first time is a duration.
 pub(crate) fn is_after_duration(kind: u8) -> bool
     ensures { λ r. ⌜ r ≡ afterDuration kind ⌝ }
 {
-    (kind == 2) | (kind == 4)
+    (kind == 2) | (kind == WHEN_AFTER)
 }
 
 // Whether a start has a first time.

@@ -6,6 +6,7 @@ pub mod shape;
 pub mod times;
 pub mod writer;
 
+// The largest value of a semaphore, and the most readers of a bolt.
 pub const MOST_VALUE: u32 = 65_535;
 
 pub const MOST_NUMBERS: u8 = 4;

@@ -5,6 +5,7 @@ ghost use Rattle.record.specs.Writing.{written};
 use crate::Written;
 use crate::reader::refusal_at;
 use layout::Call;
+use layout::RECORD_LENGTH;
 use layout::fields::bytes_of;
 
 // The record of a call or declaration, or the refusal that the reader would give and zero bytes.
@@ -20,6 +21,6 @@ pub fn write(c: Call) -> Written
     }
     Written {
         number: n,
-        bytes: [0; 24],
+        bytes: [0; RECORD_LENGTH],
     }
 }

@@ -15,12 +15,11 @@ use calls::quiet::is_tick;
 use calls::quiet::quiet_before;
 use calls::step::step_on;
 use kernel::Kernel;
+use layout::RECORD_LENGTH;
 use lines::line_at;
 use machine::Answer;
 use machine::Running;
 use survey::look::survey;
-
-pub const RECORD_LENGTH: usize = 24;
 
 pub const LONGEST_LINE: usize = 63;
 

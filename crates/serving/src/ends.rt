@@ -9,6 +9,7 @@ ghost use Rattle.machine.specs.Step.{finish};
 ghost use Rattle.machine.specs.Work.{onlyEnabled};
 ghost use Rattle.survey.specs.Looks.{waitsOk};
 ghost use Rattle.serving.specs.Ends.{served, withServed, servedOf, workHere};
+use lock::Way;
 use lock::is_waiting;
 use machine::Answer;
 use machine::Running;
@@ -73,7 +74,7 @@ fn next_served(k: State) -> Running
         let list = t.list;
         for j in 0..m {
             let x = list[j] as usize;
-            if !locks.is_free(wait, x) {
+            if !locks.can_move(Way::Take, wait, x) {
                 continue 'tasks;
             }
         }
@@ -94,7 +95,7 @@ fn grant_to(mut k: State, i: usize) -> State
     let list = t.list;
     let m = t.len as usize;
     let locks = k.locks;
-    let left = locks.take_all(wait, m, list);
+    let left = locks.move_all(Way::Take, wait, m, list);
     let over = t.awake();
     k.locks = left;
     k.tasks[i] = over;

@@ -19,9 +19,13 @@ use calendar::is_period;
 use calendar::is_time_of_day;
 use layout::Numbers;
 use lock::Locks;
+use lock::MOST_LOCKS;
 use lock::Wait;
+use lock::Way;
 use lock::is_waiting;
 use machine::Counts;
+use machine::MOST_INTERRUPTS;
+use machine::MOST_TASKS;
 use record::lists::is_distinct;
 use task::Hold;
 use task::Kept;
@@ -217,7 +221,7 @@ fn is_wait_settled(n: Counts, locks: Locks, t: Task) -> bool
     if !are_below(list, len, count_of(n, wait)) {
         return false;
     }
-    !locks.is_grantable(wait, len, list)
+    !locks.can_move_all(Way::Take, wait, len, list)
 }
 
 // The test of a task that isn't at ease, beside its priorities, its schedule and a start kept back.
@@ -238,5 +242,8 @@ pub fn is_busy_ok(n: Counts, locks: Locks, t: Task) -> bool
 pub fn are_counts_ok(n: Counts) -> bool
     ensures { λ r. ⌜ r ≡ countsOk n ⌝ }
 {
-    (n.tasks <= 32) & (n.semaphores <= 16) & (n.bolts <= 16) & (n.interrupts <= 8)
+    (n.tasks <= MOST_TASKS)
+        & (n.semaphores <= MOST_LOCKS)
+        & (n.bolts <= MOST_LOCKS)
+        & (n.interrupts <= MOST_INTERRUPTS)
 }

@@ -14,7 +14,7 @@ use machine::Running;
 use machine::State;
 use task::Hold;
 
-pub const MOST_TASKS: usize = 32;
+const MOST_TASKS: usize = machine::MOST_TASKS as usize;
 
 // More than the urgency of any task: 32 * 255 + 31 is the largest.
 pub const NOBODY: u32 = 8192;

@@ -4,12 +4,6 @@ use Rattle.calendar.specs.Dues.{allowed}
 use Rattle.calendar.proofs.is_allowed.Statement.{statement}
 use Rattle.calendar.proofs.is_allowed.Tie as tie
 
-enum-told : tie.Need-enum-told
-enum-told c = search needs
-
-enum-known-last : tie.Need-enum-known-last
-enum-known-last c = search needs
-
 returns : tie.Need-returns
 unfolding allowed
 returns c = rw (c .enum-told .given .1)
@@ -19,4 +13,4 @@ unfolding allowed
 returns-2 c = rw (c .before .before .before .last .given .1)
 
 pub is-allowed-spec : {M : Type 1} → statement M
-is-allowed-spec = tie.close (tie.spec enum-told enum-known-last returns returns-2)
+is-allowed-spec = tie.close (tie.spec (λ c. search needs) (λ c. search needs) returns returns-2)

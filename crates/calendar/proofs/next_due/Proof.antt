@@ -12,12 +12,6 @@ returns : tie.Need-returns
 unfolding nextDue
 returns c = rw (c .if1 .taken)
 
-plus-requires : tie.Need-plus-requires
-plus-requires c κs = search needs
-
-is-allowed-requires : tie.Need-is-allowed-requires
-is-allowed-requires c κs = search needs
-
 returns-2 : tie.Need-returns-2
 unfolding nextDue
 returns-2 c =
@@ -31,4 +25,4 @@ returns-3 c =
     simp (← c .before .before .plus .ensures, sym (c .before .is-allowed .ensures) ∙ c .if2 .left, lt-ltb)
 
 pub next-due-spec : {M : Type 1} → statement M
-next-due-spec = tie.close (tie.spec returns plus-requires is-allowed-requires returns-2 returns-3)
+next-due-spec = tie.close (tie.spec returns (λ c κs. search needs) (λ c κs. search needs) returns-2 returns-3)

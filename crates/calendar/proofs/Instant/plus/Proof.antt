@@ -9,8 +9,5 @@ cast-wide c = search needs
 add-fits : tie.Need-add-t4
 add-fits c = search needs
 
-returns : tie.Need-returns
-returns c = search needs
-
 pub plus-spec : {M : Type 1} → statement M
-plus-spec = tie.close (tie.spec cast-wide add-fits returns)
+plus-spec = tie.close (tie.spec cast-wide add-fits (λ c. search needs))

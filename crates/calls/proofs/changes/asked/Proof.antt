@@ -9,13 +9,13 @@ use Rattle.calls.proofs.changes.asked.Tie as tie
 cast-n : tie.Need-cast-n
 cast-n c = search needs
 
-is-grantable-requires : tie.Need-is-grantable-requires
-is-grantable-requires c κs = search needs
+can-move-all-requires : tie.Need-can-move-all-requires
+can-move-all-requires c κs = search needs
 
-take-all-requires : tie.Need-take-all-requires
-take-all-requires c κs =
+move-all-requires : tie.Need-move-all-requires
+move-all-requires c κs =
     let p = c .before .before .before .pre in
-    (p .short, (p .below, (p .once, sym (c .before .is-grantable .ensures) ∙ c .if1 .taken)))
+    (p .short, (p .below, (p .once, sym (c .before .can-move-all .ensures) ∙ c .if1 .taken)))
 
 by-locks-requires : tie.Need-by-locks-requires
 by-locks-requires c κs = search needs
@@ -24,7 +24,7 @@ returns : tie.Need-returns
 unfolding asks
 returns c =
     let p = c .before .before in
-    rw (c .by-locks .ensures, c .before .take-all .ensures, ← p .before .is-grantable .ensures, p .if1 .taken)
+    rw (c .by-locks .ensures, c .before .move-all .ensures, ← p .before .can-move-all .ensures, p .if1 .taken)
 
 by-locks-requires-2 : tie.Need-by-locks-requires-2
 by-locks-requires-2 c κs = search needs
@@ -33,7 +33,7 @@ returns-2 : tie.Need-returns-2
 unfolding asks
 returns-2 c =
     let p = c .before .before in
-    rw (c .by-locks2 .ensures, ← p .before .is-grantable .ensures, p .if1 .left, not-true (p .before .before .before .args .waits) (c .before .if2 .taken))
+    rw (c .by-locks2 .ensures, ← p .before .can-move-all .ensures, p .if1 .left, not-true (p .before .before .before .args .waits) (c .before .if2 .taken))
 
 waiting-for-requires : tie.Need-waiting-for-requires
 waiting-for-requires c κs = search needs
@@ -45,15 +45,15 @@ returns-3 : tie.Need-returns-3
 unfolding asks
 returns-3 c =
     let p = c .before .before .before in
-    rw (c .by-locks3 .ensures, c .before .waiting-for .ensures, ← p .before .is-grantable .ensures, p .if1 .left, not-false (p .before .before .before .args .waits) (c .before .before .if2 .left))
+    rw (c .by-locks3 .ensures, c .before .waiting-for .ensures, ← p .before .can-move-all .ensures, p .if1 .left, not-false (p .before .before .before .args .waits) (c .before .before .if2 .left))
 
 pub asked-spec : {M : Type 1} → statement M
 asked-spec =
     tie.close
     (tie.spec
     cast-n
-    is-grantable-requires
-    take-all-requires
+    can-move-all-requires
+    move-all-requires
     by-locks-requires
     returns
     by-locks-requires-2

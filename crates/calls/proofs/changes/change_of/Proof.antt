@@ -100,9 +100,9 @@ asked-requires-4 c κs = search needs
 enum-told-10 : tie.Need-enum-told-10
 enum-told-10 c = search needs
 
-give-all-requires : tie.Need-give-all-requires
+move-all-requires : tie.Need-move-all-requires
 unfolding refusalBy
-give-all-requires c κs =
+move-all-requires c κs =
     let p = c .before .before .before .pre .1 in
     let o = p .0 in
     (o .short, (o .below, (o .once, given-back (p .1 .0) _ 12 (rw (c .enum-told10 .given .1) at (p .1 .1)))))
@@ -113,9 +113,9 @@ by-locks-requires c κs = search needs
 enum-told-11 : tie.Need-enum-told-11
 enum-told-11 c = search needs
 
-give-all-requires-2 : tie.Need-give-all-requires-2
+move-all-requires-2 : tie.Need-move-all-requires-2
 unfolding refusalBy
-give-all-requires-2 c κs =
+move-all-requires-2 c κs =
     let p = c .before .before .before .pre .1 in
     let o = p .0 in
     (o .short, (o .below, (o .once, given-back (p .1 .0) _ 13 (rw (c .enum-told11 .given .1) at (p .1 .1)))))
@@ -126,9 +126,9 @@ by-locks-requires-2 c κs = search needs
 enum-told-12 : tie.Need-enum-told-12
 enum-told-12 c = search needs
 
-give-all-requires-3 : tie.Need-give-all-requires-3
+move-all-requires-3 : tie.Need-move-all-requires-3
 unfolding refusalBy
-give-all-requires-3 c κs =
+move-all-requires-3 c κs =
     let p = c .before .before .before .pre .1 in
     let o = p .0 in
     (o .short, (o .below, (o .once, given-back (p .1 .0) _ 13 (rw (c .enum-told12 .given .1) at (p .1 .1)))))
@@ -187,15 +187,15 @@ returns-10 c = c .asked4 .ensures ∙ sym (ap (does (c .before .before .before .
 
 returns-11 : tie.Need-returns-11
 unfolding changeOf
-returns-11 c = rw (c .before .before .enum-told10 .given .1, c .by-locks .ensures, c .before .give-all .ensures)
+returns-11 c = rw (c .before .before .enum-told10 .given .1, c .by-locks .ensures, c .before .move-all .ensures)
 
 returns-12 : tie.Need-returns-12
 unfolding changeOf
-returns-12 c = rw (c .before .before .enum-told11 .given .1, c .by-locks2 .ensures, c .before .give-all2 .ensures)
+returns-12 c = rw (c .before .before .enum-told11 .given .1, c .by-locks2 .ensures, c .before .move-all2 .ensures)
 
 returns-13 : tie.Need-returns-13
 unfolding changeOf
-returns-13 c = rw (c .before .before .enum-told12 .given .1, c .by-locks3 .ensures, c .before .give-all3 .ensures)
+returns-13 c = rw (c .before .before .enum-told12 .given .1, c .by-locks3 .ensures, c .before .move-all3 .ensures)
 
 returns-14 : tie.Need-returns-14
 unfolding changeOf
@@ -236,13 +236,13 @@ change-of-spec =
     enum-told-9
     asked-requires-4
     enum-told-10
-    give-all-requires
+    move-all-requires
     by-locks-requires
     enum-told-11
-    give-all-requires-2
+    move-all-requires-2
     by-locks-requires-2
     enum-told-12
-    give-all-requires-3
+    move-all-requires-3
     by-locks-requires-3
     by-locks-requires-4
     returns

@@ -64,8 +64,8 @@ unless-requires-7 c κs = search needs
 enum-told-5 : tie.Need-enum-told-5
 enum-told-5 c = search needs
 
-is-returnable-requires : tie.Need-is-returnable-requires
-is-returnable-requires c κs = search needs
+can-move-all-requires : tie.Need-can-move-all-requires
+can-move-all-requires c κs = search needs
 
 unless-requires-8 : tie.Need-unless-requires-8
 unless-requires-8 c κs = search needs
@@ -76,8 +76,8 @@ unless-requires-9 c κs = search needs
 enum-told-6 : tie.Need-enum-told-6
 enum-told-6 c = search needs
 
-is-returnable-requires-2 : tie.Need-is-returnable-requires-2
-is-returnable-requires-2 c κs = search needs
+can-move-all-requires-2 : tie.Need-can-move-all-requires-2
+can-move-all-requires-2 c κs = search needs
 
 unless-requires-10 : tie.Need-unless-requires-10
 unless-requires-10 c κs = search needs
@@ -88,8 +88,8 @@ unless-requires-11 c κs = search needs
 enum-told-7 : tie.Need-enum-told-7
 enum-told-7 c = search needs
 
-is-returnable-requires-3 : tie.Need-is-returnable-requires-3
-is-returnable-requires-3 c κs = search needs
+can-move-all-requires-3 : tie.Need-can-move-all-requires-3
+can-move-all-requires-3 c κs = search needs
 
 unless-requires-12 : tie.Need-unless-requires-12
 unless-requires-12 c κs = search needs
@@ -135,19 +135,19 @@ returns-6 : tie.Need-returns-6
 unfolding refusalBy
 returns-6 c =
     let p = c .before .before .before in
-    rw (p .enum-told5 .given .1, c .unless9 .ensures, c .before .unless8 .ensures, c .before .before .is-returnable .ensures, p .before .before .is-someone .ensures)
+    rw (p .enum-told5 .given .1, c .unless9 .ensures, c .before .unless8 .ensures, c .before .before .can-move-all .ensures, p .before .before .is-someone .ensures)
 
 returns-7 : tie.Need-returns-7
 unfolding refusalBy
 returns-7 c =
     let p = c .before .before .before in
-    rw (p .enum-told6 .given .1, c .unless11 .ensures, c .before .unless10 .ensures, c .before .before .is-returnable2 .ensures, p .before .before .is-someone .ensures)
+    rw (p .enum-told6 .given .1, c .unless11 .ensures, c .before .unless10 .ensures, c .before .before .can-move-all2 .ensures, p .before .before .is-someone .ensures)
 
 returns-8 : tie.Need-returns-8
 unfolding refusalBy
 returns-8 c =
     let p = c .before .before .before in
-    rw (p .enum-told7 .given .1, c .unless13 .ensures, c .before .unless12 .ensures, c .before .before .is-returnable3 .ensures, p .before .before .is-someone .ensures)
+    rw (p .enum-told7 .given .1, c .unless13 .ensures, c .before .unless12 .ensures, c .before .before .can-move-all3 .ensures, p .before .before .is-someone .ensures)
 
 returns-9 : tie.Need-returns-9
 unfolding refusalBy
@@ -179,15 +179,15 @@ state-refusal-spec =
     unless-requires-6
     unless-requires-7
     enum-told-5
-    is-returnable-requires
+    can-move-all-requires
     unless-requires-8
     unless-requires-9
     enum-told-6
-    is-returnable-requires-2
+    can-move-all-requires-2
     unless-requires-10
     unless-requires-11
     enum-told-7
-    is-returnable-requires-3
+    can-move-all-requires-3
     unless-requires-12
     unless-requires-13
     enum-told-8

@@ -18,31 +18,10 @@ abbrev μ-loop : tie.MeasureT-loop
 loop-holds : tie.Need-loop-holds Inv-loop μ-loop
 loop-holds c = refl
 
-shared-slice-read-x : tie.Need-shared-slice-read-x Inv-loop μ-loop
-shared-slice-read-x c = search needs
-
-add-i : tie.Need-add-i Inv-loop μ-loop
-add-i c = search needs
-
-sub-is-named : tie.Need-sub-is-named Inv-loop μ-loop
-sub-is-named c = search needs
-
-part-is-named-start : tie.Need-part-is-named-start Inv-loop μ-loop
-part-is-named-start c = search needs
-
-part-is-named-end : tie.Need-part-is-named-end Inv-loop μ-loop
-part-is-named-end c = search needs
-
-is-named-requires : tie.Need-is-named-requires Inv-loop μ-loop
-is-named-requires c κs = search needs
-
 returns : tie.Need-returns Inv-loop μ-loop
 returns c =
     let before = c .before .before .before .before in
     sym (before .before .loop .inv ∙ distinct-stop _ _ (before .loop-test .taken) (sym (rw part-to-end at (c .before .is-named .ensures)) ∙ c .if1 .taken))
-
-loop-less : tie.Need-loop-less Inv-loop μ-loop
-loop-less c = search needs
 
 loop-again : tie.Need-loop-again Inv-loop μ-loop
 loop-again c =
@@ -59,13 +38,13 @@ has-no-repeat-spec =
     Inv-loop
     μ-loop
     loop-holds
-    shared-slice-read-x
-    add-i
-    sub-is-named
-    part-is-named-start
-    part-is-named-end
-    is-named-requires
+    (λ c. search needs)
+    (λ c. search needs)
+    (λ c. search needs)
+    (λ c. search needs)
+    (λ c. search needs)
+    (λ c κs. search needs)
     returns
-    loop-less
+    (λ c. search needs)
     loop-again
     returns-2)

@@ -11,37 +11,13 @@ use Rattle.record.proofs.reader.open.Tie as tie
 marked : (c : tie.After-mark-of) → markOf (letters (now (c .before .before .before .before .args .s))) ≡ c .mark-of .result
 marked c = sym (c .mark-of .ensures ∙ ap markOf (c .before .letters-at .ensures))
 
-refuse-requires : tie.Need-refuse-requires
-refuse-requires c κs = search needs
-
 returns : tie.Need-returns
 returns c = c .refuse .ensures ∙ sym (opened-length _ (c .before .if1 .taken))
-
-letters-at-requires : tie.Need-letters-at-requires
-letters-at-requires c κs = search needs
-
-mark-of-requires : tie.Need-mark-of-requires
-mark-of-requires c κs = search needs
-
-enum-known-found : tie.Need-enum-known-found
-enum-known-found c = search needs
-
-enum-told : tie.Need-enum-told
-enum-told c = search needs
-
-refuse-requires-2 : tie.Need-refuse-requires-2
-refuse-requires-2 c κs = search needs
 
 returns-2 : tie.Need-returns-2
 returns-2 c =
     let m = c .before .before .before in
     c .refuse2 .ensures ∙ sym (opened-unknown _ (m .before .before .if1 .left) (marked m ∙ c .before .enum-told .given .1))
-
-head-at-requires : tie.Need-head-at-requires
-head-at-requires c κs = search needs
-
-list-at-requires : tie.Need-list-at-requires
-list-at-requires c κs = search needs
 
 returns-3 : tie.Need-returns-3
 returns-3 c =
@@ -54,14 +30,14 @@ pub open-spec : {M : Type 1} → statement M
 open-spec =
     tie.close
     (tie.spec
-    refuse-requires
+    (λ c κs. search needs)
     returns
-    letters-at-requires
-    mark-of-requires
-    enum-known-found
-    enum-told
-    refuse-requires-2
+    (λ c κs. search needs)
+    (λ c κs. search needs)
+    (λ c. search needs)
+    (λ c. search needs)
+    (λ c κs. search needs)
     returns-2
-    head-at-requires
-    list-at-requires
+    (λ c κs. search needs)
+    (λ c κs. search needs)
     returns-3)

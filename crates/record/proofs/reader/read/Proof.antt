@@ -6,15 +6,6 @@ use Rattle.record.proofs.ReaderLaws.{read-refused, read-fields, read-pa
 use Rattle.record.proofs.reader.read.Statement.{statement}
 use Rattle.record.proofs.reader.read.Tie as tie
 
-open-requires : tie.Need-open-requires
-open-requires c κs = search needs
-
-enum-known-answer : tie.Need-enum-known-answer
-enum-known-answer c = search needs
-
-enum-told : tie.Need-enum-told
-enum-told c = search needs
-
 returns : tie.Need-returns
 returns c = read-refused _ _ (c .before .before .before .«open» .ensures) (c .enum-told .given .1)
 
@@ -24,9 +15,6 @@ refusal-at-requires c κs = read-fields day _ (c .before .before .before .before
 returns-2 : tie.Need-returns-2
 returns-2 c = read-passed _ _ (c .before .before .before .before .before .before .«open» .ensures) (c .before .before .before .answer .given .1) (c .before .refusal-at .ensures) (c .if1 .taken)
 
-refuse-requires : tie.Need-refuse-requires
-refuse-requires c κs = search needs
-
 returns-3 : tie.Need-returns-3
 returns-3 c = c .refuse .ensures ∙ read-failed _ _ (c .before .before .before .before .before .before .before .«open» .ensures) (c .before .before .before .before .answer .given .1) (c .before .before .refusal-at .ensures) (c .before .if1 .left)
 
@@ -34,11 +22,11 @@ pub read-spec : {M : Type 1} → statement M
 read-spec =
     tie.close
     (tie.spec
-    open-requires
-    enum-known-answer
-    enum-told
+    (λ c κs. search needs)
+    (λ c. search needs)
+    (λ c. search needs)
     returns
     refusal-at-requires
     returns-2
-    refuse-requires
+    (λ c κs. search needs)
     returns-3)

@@ -5,17 +5,11 @@ use Rattle.record.proofs.ReaderLaws.{shape-none, shape-some}
 use Rattle.record.proofs.reader.refusal_at.Statement.{statement}
 use Rattle.record.proofs.reader.refusal_at.Tie as tie
 
-shape-at-requires : tie.Need-shape-at-requires
-shape-at-requires c κs = search needs
-
 returns : tie.Need-returns
 returns c = shape-some _ _ (c .before .shape-at .ensures) (c .if1 .taken)
-
-times-of-requires : tie.Need-times-of-requires
-times-of-requires c κs = search needs
 
 returns-2 : tie.Need-returns-2
 returns-2 c = c .times-of .ensures ∙ shape-none _ _ (c .before .before .shape-at .ensures) (c .before .if1 .left)
 
 pub refusal-at-spec : {M : Type 1} → statement M
-refusal-at-spec = tie.close (tie.spec shape-at-requires returns times-of-requires returns-2)
+refusal-at-spec = tie.close (tie.spec (λ c κs. search needs) returns (λ c κs. search needs) returns-2)

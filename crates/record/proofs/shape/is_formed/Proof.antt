@@ -7,81 +7,6 @@ use Rattle.record.specs.Refusals.{formed, uses, ranged}
 use Rattle.record.proofs.shape.is_formed.Statement.{statement}
 use Rattle.record.proofs.shape.is_formed.Tie as tie
 
-form-of-requires : tie.Need-form-of-requires
-form-of-requires c κs = search needs
-
-enum-told : tie.Need-enum-told
-enum-told c = search needs
-
-zero-around-requires : tie.Need-zero-around-requires
-zero-around-requires c κs = search needs
-
-enum-told-2 : tie.Need-enum-told-2
-enum-told-2 c = search needs
-
-zero-around-requires-2 : tie.Need-zero-around-requires-2
-zero-around-requires-2 c κs = search needs
-
-enum-told-3 : tie.Need-enum-told-3
-enum-told-3 c = search needs
-
-zero-around-requires-3 : tie.Need-zero-around-requires-3
-zero-around-requires-3 c κs = search needs
-
-enum-told-4 : tie.Need-enum-told-4
-enum-told-4 c = search needs
-
-zero-around-requires-4 : tie.Need-zero-around-requires-4
-zero-around-requires-4 c κs = search needs
-
-enum-told-5 : tie.Need-enum-told-5
-enum-told-5 c = search needs
-
-zero-around-requires-5 : tie.Need-zero-around-requires-5
-zero-around-requires-5 c κs = search needs
-
-enum-told-6 : tie.Need-enum-told-6
-enum-told-6 c = search needs
-
-zero-around-requires-6 : tie.Need-zero-around-requires-6
-zero-around-requires-6 c κs = search needs
-
-enum-told-7 : tie.Need-enum-told-7
-enum-told-7 c = search needs
-
-zero-around-requires-7 : tie.Need-zero-around-requires-7
-zero-around-requires-7 c κs = search needs
-
-enum-told-8 : tie.Need-enum-told-8
-enum-told-8 c = search needs
-
-sub-zeros : tie.Need-sub-zeros
-sub-zeros c = search needs
-
-part-zeros-start : tie.Need-part-zeros-start
-part-zeros-start c = search needs
-
-part-zeros-end : tie.Need-part-zeros-end
-part-zeros-end c = search needs
-
-zeros-requires : tie.Need-zeros-requires
-zeros-requires c κs = search needs
-
-is-start-formed-requires : tie.Need-is-start-formed-requires
-is-start-formed-requires c κs = search needs
-
-enum-told-9 : tie.Need-enum-told-9
-enum-told-9 c = search needs
-
-is-list-formed-requires : tie.Need-is-list-formed-requires
-is-list-formed-requires c κs = search needs
-
-enum-told-10 : tie.Need-enum-told-10
-enum-told-10 c = search needs
-
-is-list-formed-requires-2 : tie.Need-is-list-formed-requires-2
-is-list-formed-requires-2 c κs = search needs
-
 returns : tie.Need-returns
 unfolding formed uses ranged
 returns c = rw (← c .before .before .before .form-of .ensures, c .before .enum-told .given .1, c .zero-around .ensures) (alone _ _ _ _ (c .before .before .before .before .before .pre) true)
@@ -126,31 +51,31 @@ pub is-formed-spec : {M : Type 1} → statement M
 is-formed-spec =
     tie.close
     (tie.spec
-    form-of-requires
-    enum-told
-    zero-around-requires
-    enum-told-2
-    zero-around-requires-2
-    enum-told-3
-    zero-around-requires-3
-    enum-told-4
-    zero-around-requires-4
-    enum-told-5
-    zero-around-requires-5
-    enum-told-6
-    zero-around-requires-6
-    enum-told-7
-    zero-around-requires-7
-    enum-told-8
-    sub-zeros
-    part-zeros-start
-    part-zeros-end
-    zeros-requires
-    is-start-formed-requires
-    enum-told-9
-    is-list-formed-requires
-    enum-told-10
-    is-list-formed-requires-2
+    (λ c κs. search needs)
+    (λ c. search needs)
+    (λ c κs. search needs)
+    (λ c. search needs)
+    (λ c κs. search needs)
+    (λ c. search needs)
+    (λ c κs. search needs)
+    (λ c. search needs)
+    (λ c κs. search needs)
+    (λ c. search needs)
+    (λ c κs. search needs)
+    (λ c. search needs)
+    (λ c κs. search needs)
+    (λ c. search needs)
+    (λ c κs. search needs)
+    (λ c. search needs)
+    (λ c. search needs)
+    (λ c. search needs)
+    (λ c. search needs)
+    (λ c κs. search needs)
+    (λ c κs. search needs)
+    (λ c. search needs)
+    (λ c κs. search needs)
+    (λ c. search needs)
+    (λ c κs. search needs)
     returns
     returns-2
     returns-3

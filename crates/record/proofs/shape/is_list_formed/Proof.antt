@@ -11,21 +11,6 @@ use Rattle.record.proofs.shape.is_list_formed.Tie as tie
 returns : tie.Need-returns
 returns c = rw (lt-leb _ _ (c .if1 .taken))
 
-sub-zeros : tie.Need-sub-zeros
-sub-zeros c = search needs
-
-part-zeros-start : tie.Need-part-zeros-start
-part-zeros-start c = search needs
-
-part-zeros-end : tie.Need-part-zeros-end
-part-zeros-end c = search needs
-
-zeros-requires : tie.Need-zeros-requires
-zeros-requires c κs = search needs
-
-zero-around-requires : tie.Need-zero-around-requires
-zero-around-requires c κs = search needs
-
 returns-2 : tie.Need-returns-2
 returns-2 c =
     let a = c .before .before .before .before .before .before .args in
@@ -37,9 +22,9 @@ is-list-formed-spec =
     tie.close
     (tie.spec
     returns
-    sub-zeros
-    part-zeros-start
-    part-zeros-end
-    zeros-requires
-    zero-around-requires
+    (λ c. search needs)
+    (λ c. search needs)
+    (λ c. search needs)
+    (λ c κs. search needs)
+    (λ c κs. search needs)
     returns-2)

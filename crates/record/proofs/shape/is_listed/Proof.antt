@@ -5,21 +5,6 @@ use Rattle.record.proofs.ShapeLaws.{listed-else}
 use Rattle.record.proofs.shape.is_listed.Statement.{statement}
 use Rattle.record.proofs.shape.is_listed.Tie as tie
 
-form-of-requires : tie.Need-form-of-requires
-form-of-requires c κs = search needs
-
-cast-n : tie.Need-cast-n
-cast-n c = search needs
-
-enum-told : tie.Need-enum-told
-enum-told c = search needs
-
-is-distinct-requires : tie.Need-is-distinct-requires
-is-distinct-requires c κs = search needs
-
-enum-told-2 : tie.Need-enum-told-2
-enum-told-2 c = search needs
-
 returns : tie.Need-returns
 unfolding listed
 returns c = rw (← c .before .before .before .before .form-of .ensures, c .before .enum-told .given .1, c .is-distinct .ensures)
@@ -35,11 +20,11 @@ pub is-listed-spec : {M : Type 1} → statement M
 is-listed-spec =
     tie.close
     (tie.spec
-    form-of-requires
-    cast-n
-    enum-told
-    is-distinct-requires
-    enum-told-2
+    (λ c κs. search needs)
+    (λ c. search needs)
+    (λ c. search needs)
+    (λ c κs. search needs)
+    (λ c. search needs)
     returns
     returns-2
     returns-3)

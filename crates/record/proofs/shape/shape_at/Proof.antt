@@ -7,9 +7,6 @@ use Rattle.record.proofs.ShapeLaws.{formed-short}
 use Rattle.record.proofs.shape.shape_at.Statement.{statement}
 use Rattle.record.proofs.shape.shape_at.Tie as tie
 
-is-formed-requires : tie.Need-is-formed-requires
-is-formed-requires c κs = search needs
-
 returns : tie.Need-returns
 unfolding shape
 returns c = rw (sym (c .before .is-formed .ensures) ∙ not-true _ (c .if1 .taken))
@@ -27,4 +24,4 @@ returns-3 c = rw (sym (c .before .before .before .is-formed .ensures) ∙ not-fa
 
 pub shape-at-spec : {M : Type 1} → statement M
 shape-at-spec =
-    tie.close (tie.spec is-formed-requires returns is-listed-requires returns-2 returns-3)
+    tie.close (tie.spec (λ c κs. search needs) returns is-listed-requires returns-2 returns-3)

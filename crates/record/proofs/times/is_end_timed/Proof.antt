@@ -4,15 +4,9 @@ use Rattle.record.specs.Refusals.{endTimed}
 use Rattle.record.proofs.times.is_end_timed.Statement.{statement}
 use Rattle.record.proofs.times.is_end_timed.Tie as tie
 
-is-time-of-day-requires : tie.Need-is-time-of-day-requires
-is-time-of-day-requires c κs = search needs
-
-is-duration-requires : tie.Need-is-duration-requires
-is-duration-requires c κs = search needs
-
 returns : tie.Need-returns
 unfolding endTimed
 returns c = rw (c .before .is-time-of-day .ensures, c .is-duration .ensures)
 
 pub is-end-timed-spec : {M : Type 1} → statement M
-is-end-timed-spec = tie.close (tie.spec is-time-of-day-requires is-duration-requires returns)
+is-end-timed-spec = tie.close (tie.spec (λ c κs. search needs) (λ c κs. search needs) returns)

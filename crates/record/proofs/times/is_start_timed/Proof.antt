@@ -4,21 +4,6 @@ use Rattle.record.specs.Refusals.{startTimed}
 use Rattle.record.proofs.times.is_start_timed.Statement.{statement}
 use Rattle.record.proofs.times.is_start_timed.Tie as tie
 
-is-first-timed-requires : tie.Need-is-first-timed-requires
-is-first-timed-requires c κs = search needs
-
-is-period-requires : tie.Need-is-period-requires
-is-period-requires c κs = search needs
-
-needs-period-requires : tie.Need-needs-period-requires
-needs-period-requires c κs = search needs
-
-given-if-requires : tie.Need-given-if-requires
-given-if-requires c κs = search needs
-
-is-end-timed-requires : tie.Need-is-end-timed-requires
-is-end-timed-requires c κs = search needs
-
 returns : tie.Need-returns
 unfolding startTimed
 returns c =
@@ -34,9 +19,9 @@ pub is-start-timed-spec : {M : Type 1} → statement M
 is-start-timed-spec =
     tie.close
     (tie.spec
-    is-first-timed-requires
-    is-period-requires
-    needs-period-requires
-    given-if-requires
-    is-end-timed-requires
+    (λ c κs. search needs)
+    (λ c κs. search needs)
+    (λ c κs. search needs)
+    (λ c κs. search needs)
+    (λ c κs. search needs)
     returns)

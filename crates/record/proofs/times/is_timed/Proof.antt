@@ -5,27 +5,6 @@ use Rattle.record.proofs.TimesLaws.{timed-else}
 use Rattle.record.proofs.times.is_timed.Statement.{statement}
 use Rattle.record.proofs.times.is_timed.Tie as tie
 
-form-of-requires : tie.Need-form-of-requires
-form-of-requires c κs = search needs
-
-enum-told : tie.Need-enum-told
-enum-told c = search needs
-
-is-time-of-day-requires : tie.Need-is-time-of-day-requires
-is-time-of-day-requires c κs = search needs
-
-enum-told-2 : tie.Need-enum-told-2
-enum-told-2 c = search needs
-
-is-duration-requires : tie.Need-is-duration-requires
-is-duration-requires c κs = search needs
-
-enum-told-3 : tie.Need-enum-told-3
-enum-told-3 c = search needs
-
-is-start-timed-requires : tie.Need-is-start-timed-requires
-is-start-timed-requires c κs = search needs
-
 returns : tie.Need-returns
 unfolding timed
 returns c = rw (← c .before .before .before .form-of .ensures, c .before .enum-told .given .1, c .is-time-of-day .ensures)
@@ -45,13 +24,13 @@ pub is-timed-spec : {M : Type 1} → statement M
 is-timed-spec =
     tie.close
     (tie.spec
-    form-of-requires
-    enum-told
-    is-time-of-day-requires
-    enum-told-2
-    is-duration-requires
-    enum-told-3
-    is-start-timed-requires
+    (λ c κs. search needs)
+    (λ c. search needs)
+    (λ c κs. search needs)
+    (λ c. search needs)
+    (λ c κs. search needs)
+    (λ c. search needs)
+    (λ c κs. search needs)
     returns
     returns-2
     returns-3

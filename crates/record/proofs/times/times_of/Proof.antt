@@ -5,9 +5,6 @@ use Rattle.record.specs.Refusals.{times}
 use Rattle.record.proofs.times.times_of.Statement.{statement}
 use Rattle.record.proofs.times.times_of.Tie as tie
 
-is-timed-requires : tie.Need-is-timed-requires
-is-timed-requires c κs = search needs
-
 returns : tie.Need-returns
 unfolding times
 returns c = rw (sym (c .before .is-timed .ensures) ∙ c .if1 .taken)
@@ -17,4 +14,4 @@ unfolding times
 returns-2 c = rw (sym (c .before .is-timed .ensures) ∙ c .if1 .left)
 
 pub times-of-spec : {M : Type 1} → statement M
-times-of-spec = tie.close (tie.spec is-timed-requires returns returns-2)
+times-of-spec = tie.close (tie.spec (λ c κs. search needs) returns returns-2)

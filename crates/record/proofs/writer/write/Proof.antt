@@ -12,12 +12,6 @@ use Rattle.layout.proofs.FieldsLaws.{bytes-long, bytes-head, bytes-list}
 use Rattle.record.proofs.writer.write.Statement.{statement}
 use Rattle.record.proofs.writer.write.Tie as tie
 
-bytes-of-requires : tie.Need-bytes-of-requires
-bytes-of-requires c κs = search needs
-
-slice-aggregate-refusal-at : tie.Need-slice-aggregate-refusal-at
-slice-aggregate-refusal-at c = search needs
-
 refusal-at-requires : tie.Need-refusal-at-requires
 refusal-at-requires c κs =
     let a = c .before .before .before .before .args .c in
@@ -38,4 +32,4 @@ returns-2 c = rw (← c .before .refusal-at .ensures) (zeros _ _ (c .if1 .left))
 pub write-spec : {M : Type 1} → statement M
 write-spec =
     tie.close
-    (tie.spec bytes-of-requires slice-aggregate-refusal-at refusal-at-requires returns returns-2)
+    (tie.spec (λ c κs. search needs) (λ c. search needs) refusal-at-requires returns returns-2)

@@ -23,8 +23,8 @@ element-copy-out-t c = omega (arith, tasks-fit (c .args .t1) (c .pre .0), c .pre
 cast-m : tie.Need-cast-m
 cast-m c = search needs
 
-take-all-requires : tie.Need-take-all-requires
-take-all-requires c κs =
+move-all-requires : tie.Need-move-all-requires
+move-all-requires c κs =
     let s = c .before .before .before .before in
     let k = s .args .t1 in
     (list s .short, (list s .below, (list s .once, served-free (k .counts .tasks) (served k 0) (s .args .i) (s .pre .1 .1))))
@@ -44,7 +44,7 @@ element-set-from-over c =
 
 returns : tie.Need-returns
 unfolding grantTo
-returns c = rw (c .awake .ensures, c .before .take-all .ensures)
+returns c = rw (c .awake .ensures, c .before .move-all .ensures)
 
 pub grant-to-spec : {M : Type 1} → statement M
 grant-to-spec =
@@ -53,7 +53,7 @@ grant-to-spec =
     mul-t
     element-copy-out-t
     cast-m
-    take-all-requires
+    move-all-requires
     awake-requires
     mul-over
     element-set-from-over

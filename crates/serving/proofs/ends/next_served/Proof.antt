@@ -163,8 +163,8 @@ array-read-x c = omega (arith, short (atP (c .before)), c .loop-test .taken)
 cast-x : tie.Need-cast-x Inv-loop μ-loop Inv-tasks μ-tasks
 cast-x c = omega (arith, number-below (c .before .loop .inv .1 .named) (c .loop-test .taken))
 
-is-free-requires : tie.Need-is-free-requires Inv-loop μ-loop Inv-tasks μ-tasks
-is-free-requires c κs = number-below (c .before .loop .inv .1 .named) (c .loop-test .taken)
+can-move-requires : tie.Need-can-move-requires Inv-loop μ-loop Inv-tasks μ-tasks
+can-move-requires c κs = number-below (c .before .loop .inv .1 .named) (c .loop-test .taken)
 
 add-i-3 : tie.Need-add-i-3 Inv-loop μ-loop Inv-tasks μ-tasks
 add-i-3 c =
@@ -180,7 +180,7 @@ tasks-again-3 : tie.Need-tasks-again-3 Inv-loop μ-loop Inv-tasks μ-tasks
 tasks-again-3 c =
     let l = c .before .before .before in
     let d = inP (atP l) in
-    let e = servable-as _ (kOf d .tasks) (kOf d .locks) (iOf d) (waits (atP l)) ∙ sym (fails-here (l .loop .inv .1) (c .before .before .loop-test .taken) (c .before .is-free .ensures) (c .if3 .taken)) in
+    let e = servable-as _ (kOf d .tasks) (kOf d .locks) (iOf d) (waits (atP l)) ∙ sym (fails-here (l .loop .inv .1) (c .before .before .loop-test .taken) (c .before .can-move .ensures) (c .if3 .taken)) in
     (omega (arith, d .tasks-test .taken, l .loop .inv .0), rw (l .loop .inv .0) (d .before .tasks .inv .1 ∙ sym (least-passed (canServe (kOf d)) (kOf d .tasks) (iOf d) (fits d) (placed d) e)))
 
 add-j : tie.Need-add-j Inv-loop μ-loop Inv-tasks μ-tasks
@@ -192,7 +192,7 @@ loop-less c = search needs
 loop-again : tie.Need-loop-again Inv-loop μ-loop Inv-tasks μ-tasks
 loop-again c =
     let l = c .before .before .before .loop in
-    (l .inv .0, passes-here (l .inv .1) (c .before .before .loop-test .taken) (c .before .is-free .ensures) (c .if3 .left))
+    (l .inv .0, passes-here (l .inv .1) (c .before .before .loop-test .taken) (c .before .can-move .ensures) (c .if3 .left))
 
 add-i-4 : tie.Need-add-i-4 Inv-loop μ-loop Inv-tasks μ-tasks
 add-i-4 c = omega (arith, placed (inP (atP (c .before))), c .before .loop .inv .0)
@@ -251,7 +251,7 @@ next-served-spec =
     loop-holds
     array-read-x
     cast-x
-    is-free-requires
+    can-move-requires
     add-i-3
     tasks-less-3
     tasks-again-3

@@ -44,8 +44,8 @@ returns-4 c = let d = c .before .before .before .before in
     settled-unknown (a .n) (a .locks) (a .t) (w .is-waiting .ensures) (e .before .before .before .if1 .left) (e .if2 .left)
     (d .is-distinct .ensures) (c .before .before .before .if3 .left) (c .before .before .count-of .ensures) (c .before .are-below .ensures) (c .if4 .taken)
 
-is-grantable-requires : tie.Need-is-grantable-requires
-is-grantable-requires c κs = let e = c .before .before .before .before .before in
+can-move-all-requires : tie.Need-can-move-all-requires
+can-move-all-requires c κs = let e = c .before .before .before .before .before in
     let s = e .before .before .before .before .before in
     let a = s .args in (
       not-many (a .t .len) (e .if2 .left),
@@ -60,7 +60,7 @@ returns-5 c = let b = c .before .before in
     let a = w .before .args in
     settled-each (a .n) (a .locks) (a .t) (w .is-waiting .ensures) (e .before .before .before .if1 .left) (e .if2 .left)
     (d .is-distinct .ensures) (b .before .before .if3 .left) (b .before .count-of .ensures) (b .are-below .ensures) (c .before .if4 .left)
-    (c .is-grantable .ensures)
+    (c .can-move-all .ensures)
 
 pub is-wait-settled-spec : {M : Type 1} → statement M
 is-wait-settled-spec =
@@ -75,5 +75,5 @@ is-wait-settled-spec =
     count-of-requires
     are-below-requires
     returns-4
-    is-grantable-requires
+    can-move-all-requires
     returns-5)
