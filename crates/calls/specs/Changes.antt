@@ -22,7 +22,7 @@ use Rattle.task.specs.State.{unheld, suspended, waitFor}
 use Rattle.task.specs.Turns.{endTurn, preventTurn, suspendTurn, continueTurn, resumeTurn}
 use Rattle.task.specs.declared.Task.{Task}
 use Rattle.task.specs.declared.Turn.{Turn}
-use Rattle.machine.specs.Calls.{activateTurn}
+use Rattle.machine.specs.Activation.{activateTurn}
 use Rattle.machine.specs.Running.{someone}
 use Rattle.machine.specs.Sets.{only}
 use Rattle.machine.specs.Work.{Work}

@@ -5,7 +5,7 @@ ghost use Rattle.calendar.specs.Limits.{day, lastInstant};
 ghost use Rattle.record.specs.Reading.{callWith};
 ghost use Rattle.machine.specs.State.{mostTasks};
 ghost use Rattle.calls.specs.Changes.{runnerAt, placeOf, Unrefused, InOrder, byTurn, byLocks, asks, changeOf, marksBy};
-use crate::turns::activate;
+use crate::activate::activate;
 use calendar::Duration;
 use calendar::Instant;
 use layout::Head;

@@ -28,7 +28,8 @@ use Rattle.machine.specs.Work.{Work, turnOf}
 use Rattle.machine.specs.Serving.{Served, serve}
 use Rattle.machine.specs.Test.{valid}
 use Rattle.machine.specs.Refusals.{declaredIn, roomFor, refusalOf}
-use Rattle.machine.specs.Calls.{addTask, addSemaphore, addBolt, addInterrupt, activateTurn}
+use Rattle.machine.specs.Activation.{activateTurn}
+use Rattle.machine.specs.Calls.{addTask, addSemaphore, addBolt, addInterrupt}
 use Rattle.machine.specs.Step.{refuse, finish, declared, orRefuse, carryOut, carryOn, stepRead, step}
 use Rattle.machine.specs.Log.{log}
 use Rattle.machine.specs.Beyond.{Agree, Match, StepsAgree, LogsAgree}

@@ -34,7 +34,8 @@ use Rattle.machine.specs.Running.{runningOf, runner, someone}
 use Rattle.machine.specs.Granting.{couldBeGranted}
 use Rattle.machine.specs.Work.{Work, onlyLocks, noWork, oneTurn, turnOf, turnOfRunner, everyTurn}
 use Rattle.machine.specs.Refusals.{declares, declaredIn, aliveAt, stateRefusalOf}
-use Rattle.machine.specs.Calls.{activateTurn, askAs, ask, trigger, tick}
+use Rattle.machine.specs.Activation.{activateTurn}
+use Rattle.machine.specs.Calls.{askAs, ask, trigger, tick}
 use Rattle.machine.specs.Step.{finish, carryOut}
 use Rattle.machine.specs.Invariants.{IsDay}
 use Rattle.machine.proofs.Below.{mostUrgent-at}

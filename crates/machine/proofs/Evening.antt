@@ -28,7 +28,7 @@ use Rattle.machine.proofs.Waits.{from, answers-append, only, asleep, aw
 abbrev plan : ℕ → ℕ → Schedule
 plan n last =
     record {
-      alarm = record { plan = Clock; interrupt = 0; delay = duration 79200000; next = instant n };
+      alarm = record { plan = Clock; interrupt = 0; delay = duration 0; next = instant n };
       last = At (instant last);
       end = Until 7200000;
       period = 7200000;

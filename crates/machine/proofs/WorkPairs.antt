@@ -30,7 +30,8 @@ use Rattle.machine.specs.Running.{runner}
 use Rattle.machine.specs.Granting.{couldBeGranted}
 use Rattle.machine.specs.Work.{Work, onlyLocks, noWork, oneTurn, turnOf, turnOfRunner, turns, everyTurn}
 use Rattle.machine.specs.Refusals.{listDeclared}
-use Rattle.machine.specs.Calls.{activateTurn, askAs, ask, giveBack, enable, trigger, tick}
+use Rattle.machine.specs.Activation.{activateTurn}
+use Rattle.machine.specs.Calls.{askAs, ask, giveBack, enable, trigger, tick}
 use Rattle.machine.proofs.Urgency.{Below, runner-below}
 use Rattle.machine.proofs.Passed.{Listed, Fits}
 use Rattle.machine.proofs.Looks.{could-same, runner-same}

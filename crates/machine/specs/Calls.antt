@@ -1,28 +1,15 @@
 -- What accepted declarations and calls do (document 01, "Records" and "The step").
 use mathlib.Core.Bool.{Bool, false, cond}
-use Prim.Native.Nat.{ℕ, zero, suc, _+_, _^_}
+use Prim.Native.Nat.{ℕ, _+_, _^_}
 use lib.ListN.{set}
-use lib.Dec.{eqb}
 use Rattle.calendar.specs.Limits.{tick as oneTick}
-use Rattle.calendar.specs.Times.{instant, duration, plus}
-use Rattle.calendar.specs.declared.Instant.{Instant}
-use Rattle.calendar.specs.declared.Start.{Start}
-use Rattle.calendar.specs.declared.Start.the-variants.{Now, At, After}
-use Rattle.calendar.specs.declared.End.{End}
-use Rattle.calendar.specs.declared.End.the-variants.{Open, Until, During}
-use Rattle.calendar.specs.declared.Moment.the-variants.{Never}
-use Rattle.record.specs.Refusals.{atTime, afterDuration, onInterrupt, named}
-use Rattle.layout.specs.declared.Head.{Head}
+use Rattle.calendar.specs.Times.{duration, plus}
+use Rattle.record.specs.Refusals.{named}
 use Rattle.layout.specs.declared.Call.{Call}
 use Rattle.lock.specs.Locks.{emptyBolt, withValue, withBolt, takeAll, giveAll}
 use Rattle.lock.specs.declared.Wait.{Wait}
 use Rattle.task.specs.State.{waitFor}
-use Rattle.task.specs.Schedules.{launch}
-use Rattle.task.specs.Turns.{unmarked, dueTurn, tickTurn, scheduleTurn, triggerTurn, orElse}
-use Rattle.task.specs.declared.Plan.the-variants.{Clock, Armed}
-use Rattle.task.specs.declared.Schedule.{Schedule}
-use Rattle.task.specs.declared.Task.{Task}
-use Rattle.task.specs.declared.Turn.{Turn}
+use Rattle.task.specs.Turns.{unmarked, tickTurn, triggerTurn}
 use Rattle.machine.specs.declared.State.{State}
 use Rattle.machine.specs.declared.Running.{Running}
 use Rattle.machine.specs.declared.Running.the-variants.{Idle, Runs}
@@ -60,41 +47,6 @@ addInterrupt k =
     withCounts
     (record { tasks = n .tasks; semaphores = n .semaphores; bolts = n .bolts; interrupts = n .interrupts + 1 })
     (withState (k .tasks) (k .locks) (set (k .enabled) (n .interrupts) false) k)
-
--- ---- ACTIVATE
-
--- When a start kind first comes due.
-abbrev pub startOf : ℕ → ℕ → Start
-startOf kind first = cond (atTime kind) (At first) (cond (afterDuration kind) (After (duration first)) Now)
-
-abbrev pub endOf : ℕ → ℕ → End
-endOf zero t = Open
-endOf (suc zero) t = Until t
-endOf (suc (suc n)) t = During (duration t)
-
--- A WHEN schedule, armed, with the priority p.
-abbrev pub armed : Head → ℕ → Schedule
-armed h p =
-    record {
-      alarm =
-          record { plan = Armed; interrupt = h .interrupt; delay = duration (h .first); next = instant 0 };
-      last = Never;
-      end = endOf (h .endkind) (h .endtime);
-      period = h .period;
-      priority = p;
-    }
-
-module _ (day clock : ℕ) (n : Instant) where
-  -- The schedule that an activation at n gives a task.
-  unfoldable pub scheduleOf : Head → ℕ → Schedule
-  scheduleOf h p =
-      cond (onInterrupt (h .kind)) (armed h p) (launch day clock Clock (startOf (h .kind) (h .first)) n (armed h p))
-
-  -- Kind 0 is due for the task; another kind replaces its schedule. Priority 0 is the declared one.
-  unfoldable pub activateTurn : Head → Task → Turn
-  activateTurn h t =
-      let p = orElse (h .priority) (t .declared) in
-      cond (eqb (h .kind) 0) (dueTurn p t) (scheduleTurn n (scheduleOf h p) t)
 
 -- ---- semaphores and bolts
 

@@ -22,7 +22,8 @@ use Rattle.machine.specs.Work.{Work, turnOf, turnOfRunner}
 use Rattle.machine.specs.Serving.{serve}
 use Rattle.machine.specs.Test.{valid}
 use Rattle.machine.specs.Refusals.{refusalOf}
-use Rattle.machine.specs.Calls.{addTask, addSemaphore, addBolt, addInterrupt, activateTurn, ask, giveBack, enable, trigger, tick}
+use Rattle.machine.specs.Activation.{activateTurn}
+use Rattle.machine.specs.Calls.{addTask, addSemaphore, addBolt, addInterrupt, ask, giveBack, enable, trigger, tick}
 
 -- All sets are empty.
 abbrev pub plainAnswer : ℕ → Running → Answer

@@ -4,7 +4,7 @@ ghost use mathlib.Core.Bool.{_||_};
 ghost use Rattle.record.specs.Refusals.{onInterrupt, atTime, afterDuration, needsPeriod};
 
 // Whether a start waits for an interrupt.
-pub(crate) fn is_on_interrupt(kind: u8) -> bool
+pub fn is_on_interrupt(kind: u8) -> bool
     ensures { λ r. ⌜ r ≡ onInterrupt kind ⌝ }
 {
     (kind == 3) | (kind == 4)
