@@ -14,7 +14,7 @@ use Rattle.calendar.specs.declared.Instant.{Instant}
 use Rattle.layout.specs.Fields.{bytesOf}
 use Rattle.lock.proofs.Bools.{byBool, byEq, contra, both}
 use Rattle.record.specs.Lists.{allZero}
-use Rattle.task.specs.Schedules.{falls, pending}
+use Rattle.task.specs.Alarms.{falls, pending}
 use Rattle.task.specs.Turns.{delayEnds}
 use Rattle.task.specs.declared.Alarm.{Alarm}
 use Rattle.task.specs.declared.Hold.{Hold}

@@ -1,15 +1,13 @@
--- Starts and ends by their kinds, and what the kernel test says of the tasks, the waits and the instant.
+-- Ends by their kind, and what the kernel test says of the tasks, the waits and the instant.
 use mathlib.Core.Path.{_≡_, refl}
 use mathlib.Core.Bool.{true}
 use mathlib.Core.List.{List, [], _∷_}
-use mathlib.Core.Logic.{_⊎_, ⊎-elim, inl, inr}
 use Prim.Native.Nat.{ℕ, zero, suc, _≤_, _<_}
 use lib.ListN.{set}
 use lib.Seq.{getD-set-other}
-use borrow.Author.Tests.{leb-true, ne-eqb}
+use borrow.Author.Tests.{leb-true}
 use Rattle.calendar.specs.Limits.{lastInstant}
 use Rattle.calendar.specs.Times.{duration}
-use Rattle.calendar.specs.declared.Start.the-variants.{Now, After}
 use Rattle.calendar.specs.declared.End.the-variants.{During}
 use Rattle.lock.specs.Locks.{waiting}
 use Rattle.lock.specs.declared.Locks.{Locks}
@@ -17,7 +15,7 @@ use Rattle.lock.proofs.Bools.{byEq, both, and-both, or-then, then-or}
 use Rattle.task.specs.State.{noTask}
 use Rattle.task.specs.declared.Task.{Task}
 use Rattle.task.proofs.Waits.{NoNewWait}
-use Rattle.machine.specs.Calls.{startOf, endOf}
+use Rattle.machine.specs.Activation.{endOf}
 use Rattle.machine.specs.State.{mostTasks, taskAt, withState}
 use Rattle.machine.specs.Test.{waitOk, taskOk, allBelow, countsOk, valid}
 use Rattle.machine.specs.declared.Counts.{Counts}
@@ -27,14 +25,7 @@ use Rattle.survey.specs.Looks.{waitsOk}
 use Rattle.machine.proofs.Passed.{counts-fit, parts}
 use Rattle.survey.proofs.TestLaws.{wait-of}
 
--- ---- starts and ends by their kinds
-
-pub start-after : (kind first : ℕ) → (kind ≡ 2) ⊎ (kind ≡ 4) → After (duration first) ≡ startOf kind first
-start-after kind first = ⊎-elim (λ e. rw e) (λ e. rw e)
-
-pub start-now : (kind first : ℕ) → (kind ≡ 1 → ⊥) → ((kind ≡ 2) ⊎ (kind ≡ 4) → ⊥) → Now ≡ startOf kind first
-start-now kind first a b =
-    rw (ne-eqb kind 1 a, ne-eqb kind 2 (λ e. b (inl e)), ne-eqb kind 4 (λ e. b (inr e)))
+-- ---- ends by their kind
 
 pub end-during : (n t : ℕ) → (n ≡ 0 → ⊥) → (n ≡ 1 → ⊥) → During (duration t) ≡ endOf n t
 end-during zero t a b = absurd (a refl)

@@ -8,7 +8,7 @@ use lib.ListN.{length, getD, drop}
 use Rattle.calendar.specs.Times.{instant}
 use Rattle.calendar.specs.declared.Instant.{Instant}
 use Rattle.record.specs.Lists.{allZero}
-use Rattle.task.specs.Schedules.{pending}
+use Rattle.task.specs.Alarms.{pending}
 use Rattle.task.specs.declared.Alarm.{Alarm}
 use Rattle.task.specs.declared.Hold.{Hold}
 use Rattle.task.specs.declared.Hold.the-variants.{Unheld, Suspended, Delayed}

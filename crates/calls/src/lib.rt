@@ -1,4 +1,5 @@
 // The kernel's code over the machine's state, function by function equal to the machine, up to the step over bytes.
+pub mod activate;
 pub mod changes;
 pub mod clock;
 pub mod declarations;
@@ -7,4 +8,3 @@ pub mod quiet;
 pub mod refusals;
 mod sorts;
 pub mod step;
-pub mod turns;

@@ -8,7 +8,6 @@ use lib.Dec.{ltb, leb}
 use lib.ListN.{length, set, length-set}
 use lib.Seq.{getD-set-same, getD-set-other}
 use borrow.Author.Tests.{ltb-true, lt-ltb, leb-true, le-leb}
-use Rattle.calendar.specs.Limits.{longestDuration}
 use Rattle.record.specs.Refusals.{mostValue, uses, cleanNames, cleanStart, ranged, formedAs, timed}
 use Rattle.layout.specs.declared.Form.{Form}
 use Rattle.layout.specs.declared.Form.the-variants.{DeclaredPriority, Preset}
@@ -24,19 +23,17 @@ use Rattle.lock.proofs.Lists.{every-below, every-more}
 use Rattle.lock.proofs.Levels.{SameSize, size-refl, size-value, size-bolt, value-same, value-other, bolt-same, bolt-other}
 use Rattle.lock.proofs.Alike.{can-alike}
 use Rattle.task.specs.State.{noTask, wanted}
-use Rattle.task.specs.declared.Plan.{Plan}
-use Rattle.task.specs.declared.Plan.the-variants.{None, Clock, Armed, Triggered}
-use Rattle.task.specs.declared.Schedule.{Schedule}
 use Rattle.task.specs.declared.Task.{Task}
 use Rattle.machine.specs.declared.Counts.{Counts}
 use Rattle.machine.specs.declared.State.{State}
 use Rattle.machine.specs.State.{mostTasks, mostSemaphores, mostBolts, mostInterrupts, taskAt, countOf, freshTask, withState, withCounts, withClock}
 use Rattle.machine.specs.Granting.{couldBeGranted, servable}
-use Rattle.machine.specs.Test.{isPriority, termsOk, listenerOk, nextOk, scheduleOk}
+use Rattle.machine.specs.Test.{isPriority, scheduleOk}
 use Rattle.machine.specs.Calls.{addTask, addSemaphore, addBolt, addInterrupt}
 use Rattle.machine.proofs.Passed.{Passed, Fits, room-task, room-semaphore, room-bolt, room-interrupt}
 use Rattle.machine.proofs.Facts.{TaskOk, Bounded, bounded-of, StateOk}
 use Rattle.machine.proofs.Looks.{count-below}
+use Rattle.machine.proofs.Schedules.{schedule-more}
 
 -- ---- with more declared
 
@@ -51,23 +48,6 @@ count-more n m h Request = h .semaphores
 count-more n m h Reserve = h .bolts
 count-more n m h Enter = h .bolts
 
-listener-more : (n m : ℕ) (s : Schedule) → n ≤ m → listenerOk n s ≡ true → listenerOk m s ≡ true
-listener-more n m s h e =
-    let a = both (ltb (s .alarm .interrupt) n) (leb (s .alarm .delay .0) longestDuration) e in
-    let l = ltb-true (s .alarm .interrupt) n (a .0) in
-    and-both (lt-ltb (s .alarm .interrupt) m (omega arith)) (a .1)
-
-schedule-more : (day n m : ℕ) (p : Plan) (s : Schedule) → n ≤ m → scheduleOk day n p s ≡ true → scheduleOk day m p s ≡ true
-unfolding scheduleOk
-schedule-more day n m None s h e = refl
-schedule-more day n m Clock s h e = e
-schedule-more day n m Armed s h e =
-    let a = both (termsOk day s) (listenerOk n s) e in and-both (a .0) (listener-more n m s h (a .1))
-schedule-more day n m Triggered s h e =
-    let a = both (termsOk day s && listenerOk n s) (nextOk s) e in
-    let b = both (termsOk day s) (listenerOk n s) (a .0) in
-    and-both (and-both (b .0) (listener-more n m s h (b .1))) (a .1)
-
 task-more : (day : ℕ) (n m : Counts) (t : Task) → More n m → TaskOk day n t → TaskOk day m t
 task-more day n m t q h =
     record {
@@ -77,7 +57,7 @@ task-more day n m t q h =
       hold-ok = h .hold-ok;
       rests = h .rests;
       listed = λ e. let l = h .listed e in record { size = l .size; once = l .once; below = every-more (countOf n (t .wait)) (countOf m (t .wait)) (wanted t) (count-more n m q (t .wait)) (l .below) };
-      schedule-ok = schedule-more day (n .interrupts) (m .interrupts) (t .schedule .alarm .plan) (t .schedule) (q .interrupts) (h .schedule-ok);
+      schedule-ok = schedule-more day (n .interrupts) (m .interrupts) (t .schedule) (q .interrupts) (h .schedule-ok);
     }
 
 pub fresh-ok : (day : ℕ) (n : Counts) (p : ℕ) → isPriority p ≡ true → TaskOk day n (freshTask p)

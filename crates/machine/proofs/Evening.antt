@@ -32,7 +32,7 @@ module _ (c a u q n : ℕ) where
   abbrev plan : ℕ → Schedule
   plan next =
       record {
-        alarm = record { plan = Clock; interrupt = 0; delay = duration a; next = instant next };
+        alarm = record { plan = Clock; interrupt = 0; delay = duration 0; next = instant next };
         last = At (instant (n + (q + 1) + (q + 1)));
         end = Until u;
         period = q + 1;

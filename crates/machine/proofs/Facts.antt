@@ -16,14 +16,13 @@ use Rattle.lock.specs.declared.Wait.the-variants.{Nothing, Request, Reserve, En
 use Rattle.lock.specs.declared.Locks.{Locks}
 use Rattle.lock.proofs.Bools.{both, and-both, not-of-false, or-then, then-or, bit-le}
 use Rattle.lock.proofs.Levels.{places, Proper, SameSize}
-use Rattle.task.specs.State.{wanted}
+use Rattle.task.specs.State.{restOk, wanted}
 use Rattle.task.specs.declared.Task.{Task}
-use Rattle.task.specs.Promises.{Rests}
 use Rattle.machine.specs.declared.Counts.{Counts}
 use Rattle.machine.specs.declared.State.{State}
 use Rattle.machine.specs.State.{taskAt, countOf}
 use Rattle.machine.specs.Granting.{servable}
-use Rattle.machine.specs.Test.{between, isPriority, keptOk, holdOk, scheduleOk, restOk, waitOk, taskOk, countsOk, nobodyServable, valid}
+use Rattle.machine.specs.Test.{between, isPriority, keptOk, holdOk, scheduleOk, waitOk, taskOk, countsOk, nobodyServable, valid}
 use Rattle.machine.specs.Invariants.{Tables, Passes}
 use Rattle.machine.proofs.Below.{all-at, all-from}
 use Rattle.machine.proofs.Passed.{Fits, counts-fit, parts}
@@ -39,9 +38,9 @@ pub record TaskOk (day : ℕ) (n : Counts) (t : Task) : Type 0 where
   pub current-ok : isPriority (t .current) ≡ true
   pub kept-ok : keptOk (t .kept) ≡ true
   pub hold-ok : holdOk (t .hold) ≡ true
-  pub rests : Rests t
+  pub rests : restOk t ≡ true
   pub listed : waiting (t .wait) ≡ true → Listed n (t .wait) (t .len) (wanted t)
-  pub schedule-ok : scheduleOk day (n .interrupts) (t .schedule .alarm .plan) (t .schedule) ≡ true
+  pub schedule-ok : scheduleOk day (n .interrupts) (t .schedule) ≡ true
 
 abbrev pub Bounded : Counts → Locks → Type 0
 Bounded n r = (v : Wait) (x : ℕ) → x < countOf n v → level v r x ≤ mostValue
@@ -98,7 +97,7 @@ wait-untest n t e w =
 pub task-untest : (day : ℕ) (n : Counts) (t : Task) → taskOk day n t ≡ true → TaskOk day n t
 unfolding taskOk
 task-untest day n t e =
-    let a = both _ (scheduleOk day (n .interrupts) (t .schedule .alarm .plan) (t .schedule)) e in
+    let a = both _ (scheduleOk day (n .interrupts) (t .schedule)) e in
     let b = both _ (waitOk n t) (a .0) in
     let c = both _ (restOk t) (b .0) in
     let d = both _ (holdOk (t .hold)) (c .0) in

@@ -19,13 +19,13 @@ use Rattle.lock.specs.declared.Wait.{Wait}
 use Rattle.lock.specs.declared.Wait.the-variants.{Nothing, Request, Reserve, Enter}
 use Rattle.machine.proofs.Below.{all-at}
 use Rattle.lock.proofs.Bools.{both}
-use Rattle.task.specs.State.{unheld, suspended, wanted}
+use Rattle.task.specs.State.{unheld, suspended, restOk, wanted}
 use Rattle.task.specs.declared.Task.{Task}
 use Rattle.machine.specs.declared.Counts.{Counts}
 use Rattle.machine.specs.declared.State.{State}
 use Rattle.machine.specs.declared.Running.{Running}
 use Rattle.machine.specs.State.{mostTasks, mostSemaphores, mostBolts, mostInterrupts, taskAt, countOf}
-use Rattle.machine.specs.Test.{between, isPriority, keptOk, holdOk, restOk, waitOk, scheduleOk, taskOk, allBelow, countsOk, nobodyServable, valid}
+use Rattle.machine.specs.Test.{between, isPriority, keptOk, holdOk, waitOk, scheduleOk, taskOk, allBelow, countsOk, nobodyServable, valid}
 use Rattle.machine.specs.Running.{someone}
 use Rattle.machine.specs.Sorts.{sortOf, declares, needsRunner, givenKind}
 use Rattle.machine.specs.Refusals.{declaredIn, roomFor, formalRefusal, unreturnable, refusalBy, stateRefusal}
@@ -207,7 +207,7 @@ listed-of n t e w =
 pub listed-task : (day : ℕ) (n : Counts) (t : Task) → taskOk day n t ≡ true → Listed n t
 unfolding taskOk
 listed-task day n t e =
-    let a = both _ (scheduleOk day (n .interrupts) (t .schedule .alarm .plan) (t .schedule)) e in
+    let a = both _ (scheduleOk day (n .interrupts) (t .schedule)) e in
     listed-of n t (both (isPriority (t .declared) && isPriority (t .current) && keptOk (t .kept) && holdOk (t .hold) && restOk t) (waitOk n t) (a .0) .1)
 
 pub tested : (day : ℕ) (k : State) → valid day k ≡ true → Tested k

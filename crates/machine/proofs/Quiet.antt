@@ -17,7 +17,7 @@ use Rattle.record.specs.Refusals.{uses, cleanNames, cleanStart, ranged, formed,
 use Rattle.record.specs.Reading.{opened}
 use Rattle.layout.specs.declared.Call.{Call}
 use Rattle.layout.specs.declared.Mark.the-variants.{TI}
-use Rattle.task.specs.Schedules.{falls}
+use Rattle.task.specs.Alarms.{falls}
 use Rattle.task.specs.Turns.{unmarked, delayEnds, wake, fallTurn, tickTurn}
 use Rattle.task.specs.declared.Task.{Task}
 use Rattle.task.specs.declared.Turn.{Turn}

@@ -1,30 +1,29 @@
--- A schedule keeps its limits when it comes due, when its interrupt sets it off and when an activation gives it.
+-- An alarm and a schedule keep their limits when they come due, when their interrupt sets them off and when a call gives them.
 use mathlib.Core.Path.{_≡_, refl}
 use mathlib.Core.Bool.{Bool, true, false, not, _&&_, _||_}
 use Prim.Native.Nat.{ℕ, zero, suc, _+_, _≤_}
 use native.Mathlib.Omega.{arith}
 use lib.Dec.{ltb, leb, eqb}
-use borrow.Author.Tests.{leb-true, le-leb, eqb-true, eq-eqb, ne-eqb}
+use borrow.Author.Tests.{ltb-true, lt-ltb, leb-true, le-leb, eqb-true, eq-eqb, ne-eqb}
 use Rattle.calendar.specs.Limits.{longestDuration, lastInstant, mostInstant, isTimeOfDay, isDuration, isPeriod}
+use Rattle.calendar.specs.Times.{duration}
 use Rattle.calendar.specs.Dues.{firstDue, lastAllowed, nextDue}
 use Rattle.calendar.specs.declared.Instant.{Instant}
-use Rattle.calendar.specs.declared.Start.{Start}
-use Rattle.calendar.specs.declared.Start.the-variants.{After}
 use Rattle.calendar.specs.declared.End.{End}
 use Rattle.calendar.specs.declared.End.the-variants.{Open, Until, During}
 use Rattle.calendar.specs.declared.Moment.{Moment}
 use Rattle.calendar.specs.declared.Moment.the-variants.{Never, At as Then}
 use Rattle.calendar.proofs.Bounds.{ShortStart, ShortEnd, Within, first-within, last-within, next-within, within-more}
-use Rattle.record.specs.Refusals.{Used, onInterrupt as whenKind, atTime, afterDuration, start, orZero, cleanStart, ranged, endTimed, firstTimed, startTimed, startFormed}
+use Rattle.record.specs.Refusals.{Used, onInterrupt, atTime, afterDuration, start, orZero, cleanStart, ranged, endTimed, firstTimed, startTimed, startFormed}
 use Rattle.layout.specs.declared.Head.{Head}
 use Rattle.layout.specs.declared.Form.the-variants.{Activation}
-use Rattle.lock.proofs.Bools.{byBool, byEq, contra, both, and-both, or-then}
-use Rattle.task.specs.Schedules.{pending, onInterrupt, withAlarm, advanced, advance, launch, setOff}
-use Rattle.task.specs.declared.Plan.{Plan}
-use Rattle.task.specs.declared.Plan.the-variants.{None, Clock, Armed, Triggered}
+use Rattle.lock.proofs.Bools.{byBool, byEq, contra, both, and-both, or-then, then-or, or-right}
+use Rattle.task.specs.Alarms.{pending, listening, planned, comingAt, rearmed, setOff, startOf, alarmOf}
+use Rattle.task.specs.Schedules.{withAlarm, advanced, advance, lastOf, begun, triggered}
+use Rattle.task.specs.declared.Alarm.{Alarm}
 use Rattle.task.specs.declared.Schedule.{Schedule}
-use Rattle.machine.specs.Test.{isPriority, isStored, endOk, momentOk, termsOk, listenerOk, nextOk, scheduleOk}
-use Rattle.machine.specs.Calls.{startOf, endOf, armed, scheduleOf}
+use Rattle.machine.specs.Test.{isPriority, isStored, endOk, momentOk, listenerOk, alarmOk, lastOk, termsOk, scheduleOk}
+use Rattle.machine.specs.Activation.{endOf, scheduleOf}
 use Rattle.machine.specs.Invariants.{IsDay}
 
 short-end : (day : ℕ) (e : End) → endOk day e ≡ true → ShortEnd e
@@ -50,114 +49,165 @@ unfolding cleanStart
 clean-first u h e =
     fourth (orZero (u .kind) (h .kind)) (orZero (u .interrupt) (h .interrupt)) (orZero (u .endkind) (h .endkind)) (orZero (u .first) (h .first)) (orZero (u .period) (h .period)) (orZero (u .endtime) (h .endtime)) e
 
+-- ---- alarms
+
+-- An alarm that an interrupt or a call sets at a present instant.
+pub record Soon (ni : ℕ) (a : Alarm) : Type 0 where
+  pub heard : (not (listening (a .plan)) || listenerOk ni a) ≡ true
+  pub near : pending (a .plan) ≡ true → a .next .0 ≤ lastInstant + longestDuration
+
+pub soon-ok : (ni : ℕ) (a : Alarm) → Soon ni a → alarmOk ni a ≡ true
+unfolding alarmOk
+soon-ok ni a h =
+    and-both (h .heard) (then-or (pending (a .plan)) _ (λ q. let l = h .near q in le-leb (a .next .0) mostInstant (omega arith)))
+
+module _ (ni : ℕ) (a : Alarm) (ok : alarmOk ni a ≡ true) where
+  heard : (not (listening (a .plan)) || listenerOk ni a) ≡ true
+  unfolding alarmOk
+  heard = both _ (not (pending (a .plan)) || isStored (a .next)) ok .0
+
+  listener : listening (a .plan) ≡ true → listenerOk ni a ≡ true
+  listener = or-then (listening (a .plan)) _ heard
+
+  pub setOff-soon : (n : Instant) → n .0 ≤ lastInstant → listening (a .plan) ≡ true → Soon ni (setOff n a)
+  setOff-soon n l q =
+      let d = leb-true (a .delay .0) longestDuration (both (ltb (a .interrupt) ni) _ (listener q) .1) in
+      record { heard = listener q; near = λ z. omega arith }
+
+-- With more interrupts declared.
+alarm-more : (n m : ℕ) (a : Alarm) → n ≤ m → alarmOk n a ≡ true → alarmOk m a ≡ true
+unfolding alarmOk
+alarm-more n m a h e =
+    and-both
+    (then-or (listening (a .plan)) _
+    (λ q.
+    let b = both (ltb (a .interrupt) n) (leb (a .delay .0) longestDuration) (listener n a e q) in
+    let l = ltb-true (a .interrupt) n (b .0) in
+    and-both (lt-ltb (a .interrupt) m (omega arith)) (b .1)))
+    (both (not (listening (a .plan)) || listenerOk n a) _ e .1)
+
+-- The first time of a start that isn't AT is a duration, or unused and so 0.
+short-first : (day kind first : ℕ) → orZero (atTime kind || afterDuration kind) first ≡ true → firstTimed day kind first ≡ true
+    → atTime kind ≡ false → first ≤ longestDuration
+unfolding firstTimed
+short-first day kind first u e q =
+    byBool (afterDuration kind)
+    (λ z. leb-true first longestDuration (both (leb 1 first) _ (or-then (afterDuration kind) (isDuration first) (both (not (atTime kind) || isTimeOfDay day first) _ e .1) z) .1))
+    (λ z. let g : eqb first 0 ≡ true = rw (q, z) at u in omega (arith, eqb-true first 0 g))
+
+when-not-at : (kind : ℕ) → onInterrupt kind ≡ true → atTime kind ≡ false
+when-not-at kind e = byEq kind 1 (λ q. contra (rw q at e) refl) (λ q. ne-eqb kind 1 q)
+
+-- The alarm of a start that passed refusals 3, 5 and 6.
+pub alarmOf-soon : (day ni : ℕ) → IsDay day → (clock : ℕ) (n : Instant) → n .0 ≤ lastInstant → (kind first i : ℕ)
+    → orZero (atTime kind || afterDuration kind) first ≡ true → firstTimed day kind first ≡ true
+    → (not (onInterrupt kind) || ltb i ni) ≡ true → Soon ni (alarmOf day clock n kind first i)
+unfolding alarmOf
+alarmOf-soon day ni isDay clock n l kind first i u e d =
+    byBool (onInterrupt kind)
+    (λ q. rw q (record {
+      heard = and-both (or-then (onInterrupt kind) _ d q) (le-leb first longestDuration (short-first day kind first u e (when-not-at kind q)));
+      near = λ z. contra z refl;
+    }))
+    (λ q. rw q (record { heard = refl; near = λ z. let f = first-within day (isDay .some) (isDay .room) clock (startOf kind first) n short in omega arith }))
+  where
+    short : ShortStart (startOf kind first)
+    short = byBool (atTime kind) (λ q. rw q tt) (λ q. rw q (byBool (afterDuration kind) (λ z. rw z (short-first day kind first u e q)) (λ z. rw z tt)))
+
+-- ---- schedules
+
 module _ (day ni : ℕ) where
   abbrev pub Ok : Schedule → Type 0
-  Ok s = scheduleOk day ni (s .alarm .plan) s ≡ true
+  Ok s = scheduleOk day ni s ≡ true
 
-  pub pending-terms : (p : Plan) (s : Schedule) → pending p ≡ true → scheduleOk day ni p s ≡ true → termsOk day s ≡ true
+  -- What the test says of a schedule that there is.
+  record Parts (s : Schedule) : Type 0 where
+    alarm : alarmOk ni (s .alarm) ≡ true
+    last : lastOk s ≡ true
+    terms : termsOk day s ≡ true
+
+  to-parts : (s : Schedule) → planned (s .alarm .plan) ≡ true → Ok s → Parts s
   unfolding scheduleOk
-  pending-terms None s h e = contra h refl
-  pending-terms Clock s h e = both (termsOk day s) (nextOk s) e .0
-  pending-terms Armed s h e = contra h refl
-  pending-terms Triggered s h e = both (termsOk day s) (listenerOk ni s) (both (termsOk day s && listenerOk ni s) (nextOk s) e .0) .0
+  to-parts s q e =
+      let a = both (alarmOk ni (s .alarm) && lastOk s) (termsOk day s) (or-then (planned (s .alarm .plan)) _ e q) in
+      let b = both (alarmOk ni (s .alarm)) (lastOk s) (a .0) in
+      record { alarm = b .0; last = b .1; terms = a .1 }
 
-  listening : (p : Plan) (s : Schedule) → onInterrupt p ≡ true → scheduleOk day ni p s ≡ true → (termsOk day s && listenerOk ni s) ≡ true
+  of-parts : (s : Schedule) → Parts s → Ok s
   unfolding scheduleOk
-  listening None s h e = contra h refl
-  listening Clock s h e = contra h refl
-  listening Armed s h e = e
-  listening Triggered s h e = both (termsOk day s && listenerOk ni s) (nextOk s) e .0
+  of-parts s p = then-or (planned (s .alarm .plan)) _ (λ q. and-both (and-both (p .alarm) (p .last)) (p .terms))
 
-  next-set : (p : Plan) (m : Instant) (s : Schedule) → isStored m ≡ true → scheduleOk day ni p s ≡ true → scheduleOk day ni p (withAlarm p m (s .last) s) ≡ true
-  unfolding scheduleOk
-  next-set None m s h e = refl
-  next-set Clock m s h e =
-      let a = both (termsOk day s) (nextOk s) e in
-      and-both (a .0) (and-both h (both (isStored (s .alarm .next)) (momentOk (s .last)) (a .1) .1))
-  next-set Armed m s h e = e
-  next-set Triggered m s h e =
-      let a = both (termsOk day s && listenerOk ni s) (nextOk s) e in
-      and-both (a .0) (and-both h (both (isStored (s .alarm .next)) (momentOk (s .last)) (a .1) .1))
+  comes : (s : Schedule) → pending (s .alarm .plan) ≡ true → Ok s → Parts s
+  comes s q = to-parts s (rw q)
 
-  advanced-ok : (m : Moment) (s : Schedule) → Within mostInstant m → Ok s → Ok (advanced m s)
-  advanced-ok (Then x) s h e = next-set (s .alarm .plan) x s (le-leb (x .0) mostInstant h) e
-  advanced-ok Never s h e =
-      byBool (onInterrupt (s .alarm .plan))
-      (λ q. rw q (unfold scheduleOk in listening (s .alarm .plan) s q e))
-      (λ q. rw q (unfold scheduleOk in refl))
+  pub pending-terms : (s : Schedule) → pending (s .alarm .plan) ≡ true → Ok s → termsOk day s ≡ true
+  pending-terms s q e = comes s q e .terms
+
+  advanced-ok : (m : Moment) (s : Schedule) → Within mostInstant m → Parts s → Ok (advanced m s)
+  unfolding alarmOk scheduleOk
+  advanced-ok (Then x) s h p =
+      of-parts (withAlarm (comingAt (s .alarm .plan) x (s .alarm)) s) (record {
+        alarm = and-both (heard ni (s .alarm) (p .alarm)) (then-or (pending (s .alarm .plan)) _ (λ q. le-leb (x .0) mostInstant h));
+        last = p .last;
+        terms = p .terms;
+      })
+  advanced-ok Never s h p =
+      byBool (listening (s .alarm .plan))
+      (λ q. rw q (of-parts (withAlarm (rearmed (s .alarm)) s) (record { alarm = and-both (listener ni (s .alarm) (p .alarm) q) refl; last = refl; terms = p .terms })))
+      (λ q. rw q refl)
 
   pub advance-ok : (n : Instant) (s : Schedule) → n .0 ≤ lastInstant → pending (s .alarm .plan) ≡ true → Ok s → Ok (advance n s)
   unfolding advance
   advance-ok n s l q e =
-      let t = terms-parts day s (pending-terms (s .alarm .plan) s q e) in
+      let p = comes s q e in
+      let t = terms-parts day s (p .terms) in
       advanced-ok (nextDue (s .period) (s .last) n) s
-      (within-more (n .0 + longestDuration) mostInstant (nextDue (s .period) (s .last) n) (omega arith) (next-within (s .period) (s .last) n (t .1))) e
+      (within-more (n .0 + longestDuration) mostInstant (nextDue (s .period) (s .last) n) (omega arith) (next-within (s .period) (s .last) n (t .1))) p
 
-  module _ (isDay : IsDay day) (clock : ℕ) (n : Instant) (l : n .0 ≤ lastInstant) where
-    launched : (p : Plan) (b : Start) (s : Schedule) → ShortStart b → endOk day (s .end) ≡ true → nextOk (launch day clock p b n s) ≡ true
-    unfolding launch
-    launched p b s h e =
-        let f = first-within day (isDay .some) (isDay .room) clock b n h in
-        let m = last-within day (isDay .some) (isDay .room) clock (s .end) (firstDue day b clock n) (short-end day (s .end) e) in
-        and-both (le-leb (firstDue day b clock n .0) mostInstant (omega arith))
-        (moment-stored (lastAllowed day (s .end) clock (firstDue day b clock n))
-        (within-more _ mostInstant (lastAllowed day (s .end) clock (firstDue day b clock n)) (omega arith) m))
+  module _ (isDay : IsDay day) (clock : ℕ) where
+    begun-ok : (a : Alarm) (e : End) (period p : ℕ) → Soon ni a → termsOk day (begun day clock a e period p) ≡ true → Ok (begun day clock a e period p)
+    unfolding lastOf
+    begun-ok a e period p h t =
+        of-parts _ (record {
+          alarm = soon-ok ni a h;
+          last =
+              then-or (pending (a .plan)) _
+              (λ q.
+              let l = h .near q in
+              let m = last-within day (isDay .some) (isDay .room) clock e (a .next) (short-end day e (terms-parts day (begun day clock a e period p) t .2)) in
+              rw q (moment-stored (lastAllowed day e clock (a .next)) (within-more _ mostInstant (lastAllowed day e clock (a .next)) (omega arith) m)));
+          terms = t;
+        })
 
-    pub setOff-ok : (s : Schedule) → onInterrupt (s .alarm .plan) ≡ true → Ok s → Ok (setOff day clock n s)
-    unfolding launch scheduleOk
-    setOff-ok s q e =
-        let a = listening (s .alarm .plan) s q e in
-        let b = both (termsOk day s) (listenerOk ni s) a in
-        let d = both (ltb (s .alarm .interrupt) ni) (leb (s .alarm .delay .0) longestDuration) (b .1) in
-        and-both a (launched Triggered (After (s .alarm .delay)) s (leb-true _ _ (d .1)) (terms-parts day s (b .0) .2))
+    module _ (n : Instant) (l : n .0 ≤ lastInstant) where
+      pub triggered-ok : (s : Schedule) → listening (s .alarm .plan) ≡ true → Ok s → Ok (triggered day clock n s)
+      triggered-ok s q e =
+          let p = to-parts s (or-right (pending (s .alarm .plan)) _ q) e in
+          begun-ok (setOff n (s .alarm)) (s .end) (s .period) (s .priority) (setOff-soon ni (s .alarm) (p .alarm) n l q) (p .terms)
 
-    -- ---- the schedule of an activation
+      -- ---- the schedule of an activation
 
-    end-of : (e t : ℕ) → e ≤ 2 → endTimed day e t ≡ true → endOk day (endOf e t) ≡ true
-    unfolding endTimed
-    end-of zero t h e = refl
-    end-of (suc zero) t h e = both (isTimeOfDay day t) _ e .0
-    end-of (suc (suc m)) t h e =
-        or-then (eqb (suc (suc m)) 2) (isDuration t) (both (not (eqb (suc (suc m)) 1) || isTimeOfDay day t) _ e .1) (eq-eqb (suc (suc m)) 2 (omega arith))
+      end-of : (e t : ℕ) → e ≤ 2 → endTimed day e t ≡ true → endOk day (endOf e t) ≡ true
+      unfolding endTimed
+      end-of zero t h e = refl
+      end-of (suc zero) t h e = both (isTimeOfDay day t) _ e .0
+      end-of (suc (suc m)) t h e =
+          or-then (eqb (suc (suc m)) 2) (isDuration t) (both (not (eqb (suc (suc m)) 1) || isTimeOfDay day t) _ e .1) (eq-eqb (suc (suc m)) 2 (omega arith))
 
-    short-start : (kind first : ℕ) → firstTimed day kind first ≡ true → ShortStart (startOf kind first)
-    unfolding firstTimed
-    short-start kind first e =
-        byBool (atTime kind) (λ q. rw q tt)
-        (λ q. rw q (byBool (afterDuration kind)
-        (λ z. rw z (leb-true first longestDuration (both (leb 1 first) _ (or-then (afterDuration kind) (isDuration first) (both (not (atTime kind) || isTimeOfDay day first) _ e .1) z) .1)))
-        (λ z. rw z tt)))
+      pub scheduleOf-ok : (h : Head) (p : ℕ) → isPriority p ≡ true → startFormed h ≡ true → startTimed day h ≡ true → (not (onInterrupt (h .kind)) || ltb (h .interrupt) ni) ≡ true → Ok (scheduleOf day clock n h p)
+      unfolding scheduleOf startTimed ranged
+      scheduleOf-ok h p r f t i =
+          let a = both _ (endTimed day (h .endkind) (h .endtime)) t in
+          let b = both (firstTimed day (h .kind) (h .first) && isPeriod (h .period)) _ (a .0) in
+          let c = both (firstTimed day (h .kind) (h .first)) (isPeriod (h .period)) (b .0) in
+          let g = both (cleanStart (start (h .kind) (h .endkind)) h) _ f in
+          let m = both (leb (h .kind) 5) (leb (h .endkind) 2) (g .1) in
+          begun-ok (alarmOf day clock n (h .kind) (h .first) (h .interrupt)) (endOf (h .endkind) (h .endtime)) (h .period) p
+          (alarmOf-soon day ni isDay clock n l (h .kind) (h .first) (h .interrupt) (clean-first (start (h .kind) (h .endkind)) h (g .0)) (c .0) i)
+          (and-both (and-both r (c .1)) (end-of (h .endkind) (h .endtime) (leb-true (h .endkind) 2 (m .1)) (a .1)))
 
-    not-at : (kind : ℕ) → whenKind kind ≡ true → atTime kind ≡ false
-    not-at kind e = byEq kind 1 (λ q. contra (rw q at e) refl) (λ q. ne-eqb kind 1 q)
-
-    delay-short : (h : Head) → whenKind (h .kind) ≡ true → startFormed h ≡ true → firstTimed day (h .kind) (h .first) ≡ true → h .first ≤ longestDuration
-    unfolding firstTimed
-    delay-short h w f e =
-        byBool (afterDuration (h .kind))
-        (λ z. leb-true (h .first) longestDuration (both (leb 1 (h .first)) _ (or-then (afterDuration (h .kind)) (isDuration (h .first)) (both (not (atTime (h .kind)) || isTimeOfDay day (h .first)) _ e .1) z) .1))
-        (λ z.
-        let d = clean-first (start (h .kind) (h .endkind)) h (both (cleanStart (start (h .kind) (h .endkind)) h) (ranged Activation h) f .0) in
-        let g : eqb (h .first) 0 ≡ true = rw (not-at (h .kind) w, z) at d in
-        omega (arith, eqb-true (h .first) 0 g))
-
-    armed-ok : (h : Head) (p : ℕ) → termsOk day (armed h p) ≡ true → ltb (h .interrupt) ni ≡ true → h .first ≤ longestDuration → Ok (armed h p)
-    unfolding scheduleOk
-    armed-ok h p t i d = and-both t (and-both i (le-leb (h .first) longestDuration d))
-
-    clock-ok : (h : Head) (p : ℕ) → termsOk day (armed h p) ≡ true → ShortStart (startOf (h .kind) (h .first)) → endOk day (endOf (h .endkind) (h .endtime)) ≡ true → Ok (launch day clock Clock (startOf (h .kind) (h .first)) n (armed h p))
-    unfolding scheduleOk launch
-    clock-ok h p t b e = and-both t (launched Clock (startOf (h .kind) (h .first)) (armed h p) b e)
-
-    pub scheduleOf-ok : (h : Head) (p : ℕ) → isPriority p ≡ true → startFormed h ≡ true → startTimed day h ≡ true → (not (whenKind (h .kind)) || ltb (h .interrupt) ni) ≡ true → Ok (scheduleOf day clock n h p)
-    unfolding scheduleOf startTimed ranged
-    scheduleOf-ok h p r f t i =
-        let a = both _ (endTimed day (h .endkind) (h .endtime)) t in
-        let b = both (firstTimed day (h .kind) (h .first) && isPeriod (h .period)) _ (a .0) in
-        let c = both (firstTimed day (h .kind) (h .first)) (isPeriod (h .period)) (b .0) in
-        let g = both (leb (h .kind) 5) (leb (h .endkind) 2) (both (cleanStart (start (h .kind) (h .endkind)) h) _ f .1) in
-        let e = end-of (h .endkind) (h .endtime) (leb-true (h .endkind) 2 (g .1)) (a .1) in
-        let terms : termsOk day (armed h p) ≡ true = and-both (and-both r (c .1)) e in
-        byBool (whenKind (h .kind))
-        (λ q. rw q (armed-ok h p terms (or-then (whenKind (h .kind)) _ i q) (delay-short h q f (c .0))))
-        (λ q. rw q (clock-ok h p terms (short-start (h .kind) (h .first) (c .0)) e))
+pub schedule-more : (day n m : ℕ) (s : Schedule) → n ≤ m → Ok day n s → Ok day m s
+schedule-more day n m s h e =
+    byBool (planned (s .alarm .plan))
+    (λ q. let p = to-parts day n s q e in of-parts day m s (record { alarm = alarm-more n m (s .alarm) h (p .alarm); last = p .last; terms = p .terms }))
+    (λ q. unfold scheduleOk in rw q)

@@ -7,13 +7,14 @@ use lib.Dec.{ltb, eqb}
 use borrow.Author.Tests.{le-leb}
 use Rattle.calendar.specs.Limits.{lastInstant, mostInstant}
 use Rattle.calendar.specs.declared.Instant.{Instant}
-use Rattle.record.specs.Refusals.{onInterrupt as whenKind, startFormed, startTimed}
+use Rattle.record.specs.Refusals.{onInterrupt, startFormed, startTimed}
 use Rattle.layout.specs.declared.Head.{Head}
 use Rattle.lock.specs.Locks.{waiting}
 use Rattle.lock.proofs.Bools.{byBool, contra, both, and-both}
 use Rattle.task.specs.State.{unheld, isKept, noSchedule, withKept, withHold, withCurrent, withSchedule}
-use Rattle.task.specs.Schedules.{pending, onInterrupt, falls, advance, setOff}
-use Rattle.task.specs.Turns.{unmarked, running, terminated, dueIf, dueTurn, endIf, endTurn, preventTurn, orElse, suspendTurn, continueTurn, resumeTurn, delayEnds, wake, fallTurn, tickTurn, scheduleTurn, listens, triggerTurn}
+use Rattle.task.specs.Alarms.{pending, listening, falls, listens}
+use Rattle.task.specs.Schedules.{advance, triggered}
+use Rattle.task.specs.Turns.{unmarked, running, terminated, dueIf, dueTurn, endIf, endTurn, preventTurn, orElse, suspendTurn, continueTurn, resumeTurn, delayEnds, wake, fallTurn, tickTurn, scheduleTurn, triggerTurn}
 use Rattle.task.specs.declared.Hold.{Hold}
 use Rattle.task.specs.declared.Hold.the-variants.{Unheld, Suspended, Delayed}
 use Rattle.task.specs.declared.Kept.{Kept}
@@ -25,10 +26,10 @@ use Rattle.task.specs.Promises.{Fair}
 use Rattle.task.proofs.Fairness.{rest-facts, like-refl, fair-unmarked, fair-due, fair-end, fair-prevent, fair-suspend, fair-continue, fair-resume, fair-tick, fair-schedule}
 use Rattle.machine.specs.declared.Counts.{Counts}
 use Rattle.machine.specs.Test.{isPriority, keptOk, holdOk, scheduleOk}
-use Rattle.machine.specs.Calls.{scheduleOf, activateTurn}
+use Rattle.machine.specs.Activation.{scheduleOf, activateTurn}
 use Rattle.machine.specs.Invariants.{IsDay}
 use Rattle.machine.proofs.Facts.{TaskOk}
-use Rattle.machine.proofs.Schedules.{Ok, terms-parts, pending-terms, advance-ok, setOff-ok, scheduleOf-ok}
+use Rattle.machine.proofs.Schedules.{Ok, terms-parts, pending-terms, advance-ok, triggered-ok, scheduleOf-ok}
 
 -- A fair turn that leaves the task in its limits; p: that of a PREVENT.
 pub record Good (day : ℕ) (n : Counts) (p : Bool) (t : Task) (u : Turn) : Type 0 where
@@ -189,7 +190,7 @@ module _ (day : ℕ) (n : Counts) where
       (λ e. rw e (
       let s = t .schedule in
       let q = both (pending (s .alarm .plan)) _ e .0 in
-      let r = terms-parts day s (pending-terms day (n .interrupts) (s .alarm .plan) s q (h .schedule-ok)) .0 in
+      let r = terms-parts day s (pending-terms day (n .interrupts) s q (h .schedule-ok)) .0 in
       due-ok (s .priority) (withSchedule (advance m s) t) r (schedule-in (advance m s) t (advance-ok day (n .interrupts) m s l q (h .schedule-ok)) h)))
       (λ e. rw e h)
 
@@ -210,14 +211,14 @@ module _ (day : ℕ) (n : Counts) where
     pub good-trigger : (i : ℕ) (t : Task) → In t → Good day n false t (triggerTurn day clock m i t)
     unfolding triggerTurn
     good-trigger i t h =
-        byBool (listens i (t .schedule))
-        (λ e. rw e (good-schedule m (setOff day clock m (t .schedule)) t l
-        (setOff-ok day (n .interrupts) isDay clock m l (t .schedule) (both (onInterrupt (t .schedule .alarm .plan)) _ e .0) (h .schedule-ok)) h))
+        byBool (listens i (t .schedule .alarm))
+        (λ e. rw e (good-schedule m (triggered day clock m (t .schedule)) t l
+        (triggered-ok day (n .interrupts) isDay clock m l (t .schedule) (both (listening (t .schedule .alarm .plan)) _ e .0) (h .schedule-ok)) h))
         (λ e. rw e (good-same t h))
 
     -- Kind 0 needs no schedule; another kind's passed refusals 3, 5 and 6.
     pub good-activate : (c : Head) (t : Task) → c .priority ≤ 255 → startFormed c ≡ true → startTimed day c ≡ true
-        → (not (whenKind (c .kind)) || ltb (c .interrupt) (n .interrupts)) ≡ true → In t → Good day n false t (activateTurn day clock m c t)
+        → (not (onInterrupt (c .kind)) || ltb (c .interrupt) (n .interrupts)) ≡ true → In t → Good day n false t (activateTurn day clock m c t)
     unfolding activateTurn
     good-activate c t q f s i h =
         let r = or-else (c .priority) (t .declared) q (h .declared-ok) in

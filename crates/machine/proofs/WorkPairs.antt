@@ -40,7 +40,8 @@ use Rattle.machine.specs.Sets.{only}
 use Rattle.machine.specs.Sorts.{needsRunner, runnerAt}
 use Rattle.machine.specs.Work.{Work, byLocks, changed, onlyEnabled, turns, everyTurn}
 use Rattle.machine.specs.Refusals.{listDeclared, declaredBy}
-use Rattle.machine.specs.Calls.{activateTurn, namedTurn, runnerTurn, asks, changeOf, trigger, interruptBy, tick, workBy}
+use Rattle.machine.specs.Calls.{namedTurn, runnerTurn, asks, changeOf, trigger, interruptBy, tick, workBy}
+use Rattle.machine.specs.Activation.{activateTurn}
 use Rattle.machine.proofs.Urgency.{Below, runner-below}
 use Rattle.machine.proofs.Passed.{Listed, Fits}
 use Rattle.machine.proofs.Looks.{could-same, runner-same}

@@ -1,18 +1,12 @@
 -- What accepted declarations and calls do (document 01, "Records" and "The step").
 use mathlib.Core.Bool.{Bool, true, false, cond}
 use mathlib.Core.List.{List}
-use Prim.Native.Nat.{ℕ, zero, suc, _+_}
+use Prim.Native.Nat.{ℕ, _+_}
 use lib.ListN.{set}
-use lib.Dec.{eqb}
 use Rattle.calendar.specs.Limits.{tick as oneTick}
-use Rattle.calendar.specs.Times.{instant, duration, plus}
+use Rattle.calendar.specs.Times.{duration, plus}
 use Rattle.calendar.specs.declared.Instant.{Instant}
-use Rattle.calendar.specs.declared.Start.{Start}
-use Rattle.calendar.specs.declared.Start.the-variants.{Now, At, After}
-use Rattle.calendar.specs.declared.End.{End}
-use Rattle.calendar.specs.declared.End.the-variants.{Open, Until, During}
-use Rattle.calendar.specs.declared.Moment.the-variants.{Never}
-use Rattle.record.specs.Refusals.{atTime, afterDuration, onInterrupt, named}
+use Rattle.record.specs.Refusals.{named}
 use Rattle.layout.specs.declared.Head.{Head}
 use Rattle.layout.specs.Marks.{is}
 use Rattle.layout.specs.declared.Call.{Call}
@@ -22,10 +16,7 @@ use Rattle.lock.specs.Locks.{emptyBolt, withValue, withBolt, takeAll, giveAll}
 use Rattle.lock.specs.declared.Locks.{Locks}
 use Rattle.lock.specs.declared.Wait.{Wait}
 use Rattle.task.specs.State.{waitFor}
-use Rattle.task.specs.Schedules.{launch}
-use Rattle.task.specs.Turns.{dueTurn, endTurn, preventTurn, suspendTurn, continueTurn, resumeTurn, tickTurn, scheduleTurn, triggerTurn, orElse}
-use Rattle.task.specs.declared.Plan.the-variants.{Clock, Armed}
-use Rattle.task.specs.declared.Schedule.{Schedule}
+use Rattle.task.specs.Turns.{endTurn, preventTurn, suspendTurn, continueTurn, resumeTurn, tickTurn, triggerTurn}
 use Rattle.task.specs.declared.Task.{Task}
 use Rattle.task.specs.declared.Turn.{Turn}
 use Rattle.machine.specs.declared.State.{State}
@@ -34,6 +25,7 @@ use Rattle.machine.specs.declared.Sort.{Sort}
 use Rattle.machine.specs.declared.Sort.the-variants.{Declaration, OneTask, TheRunner, ListAsked, ListGiven, AnInterrupt, EveryTask}
 use Rattle.machine.specs.State.{taskAt, enabledAt, freshTask, withState, withCounts, withClock}
 use Rattle.machine.specs.Sorts.{sortOf, placeOf}
+use Rattle.machine.specs.Activation.{activateTurn}
 use Rattle.machine.specs.Running.{runner}
 use Rattle.machine.specs.Granting.{couldBeGranted}
 use Rattle.machine.specs.Work.{Work, byTurn, byLocks, changed, onlyEnabled, everyTurn}
@@ -76,41 +68,6 @@ declaration m c k =
     (cond (is m DB) (addBolt k)
     (cond (is m IT) (addInterrupt k)
     (cond (is m DC) (withClock (c .head .first) k) k))))
-
--- ---- ACTIVATE
-
--- When a start kind first comes due.
-abbrev pub startOf : ℕ → ℕ → Start
-startOf kind first = cond (atTime kind) (At first) (cond (afterDuration kind) (After (duration first)) Now)
-
-abbrev pub endOf : ℕ → ℕ → End
-endOf zero t = Open
-endOf (suc zero) t = Until t
-endOf (suc (suc n)) t = During (duration t)
-
--- A WHEN schedule, armed, with the priority p.
-abbrev pub armed : Head → ℕ → Schedule
-armed h p =
-    record {
-      alarm =
-          record { plan = Armed; interrupt = h .interrupt; delay = duration (h .first); next = instant 0 };
-      last = Never;
-      end = endOf (h .endkind) (h .endtime);
-      period = h .period;
-      priority = p;
-    }
-
-module _ (day clock : ℕ) (n : Instant) where
-  -- The schedule that an activation at n gives a task.
-  unfoldable pub scheduleOf : Head → ℕ → Schedule
-  scheduleOf h p =
-      cond (onInterrupt (h .kind)) (armed h p) (launch day clock Clock (startOf (h .kind) (h .first)) n (armed h p))
-
-  -- Kind 0 is due for the task; another kind replaces its schedule. Priority 0 is the declared one.
-  unfoldable pub activateTurn : Head → Task → Turn
-  activateTurn h t =
-      let p = orElse (h .priority) (t .declared) in
-      cond (eqb (h .kind) 0) (dueTurn p t) (scheduleTurn n (scheduleOf h p) t)
 
 -- ---- one task and the locks
 

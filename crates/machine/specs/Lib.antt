@@ -9,6 +9,7 @@ pub mod Work
 pub mod Serving
 pub mod Test
 pub mod Refusals
+pub mod Activation
 pub mod Calls
 pub mod Step
 pub mod Log

@@ -6,7 +6,7 @@ use lib.ListN.{length}
 use Rattle.calendar.specs.Limits.{lastInstant}
 use Rattle.calendar.specs.Times.{instant, duration, plus}
 use Rattle.calendar.specs.declared.Instant.{Instant}
-use Rattle.task.specs.Schedules.{falls}
+use Rattle.task.specs.Alarms.{falls}
 use Rattle.task.specs.Turns.{delayEnds}
 use Rattle.task.specs.declared.Task.{Task}
 use Rattle.machine.specs.declared.State.{State}

@@ -11,13 +11,13 @@ use Rattle.calendar.specs.declared.Moment.the-variants.{Never, At}
 use Rattle.record.specs.Lists.{distinct}
 use Rattle.record.specs.Refusals.{mostValue, mostNumbers}
 use Rattle.lock.specs.Locks.{waiting, every, valueAt, boltAt}
-use Rattle.task.specs.State.{unheld, isKept, wanted}
+use Rattle.task.specs.State.{restOk, wanted}
+use Rattle.task.specs.Alarms.{planned, pending, listening}
 use Rattle.task.specs.declared.Hold.{Hold}
 use Rattle.task.specs.declared.Hold.the-variants.{Unheld, Suspended, Delayed}
 use Rattle.task.specs.declared.Kept.{Kept}
 use Rattle.task.specs.declared.Kept.the-variants.{Empty, Back}
-use Rattle.task.specs.declared.Plan.{Plan}
-use Rattle.task.specs.declared.Plan.the-variants.{None, Clock, Armed, Triggered}
+use Rattle.task.specs.declared.Alarm.{Alarm}
 use Rattle.task.specs.declared.Schedule.{Schedule}
 use Rattle.task.specs.declared.Task.{Task}
 use Rattle.machine.specs.declared.Counts.{Counts}
@@ -57,27 +57,24 @@ momentOk (At n) = isStored n
 
 -- ---- one task
 
+-- The declared interrupt that an alarm waits for, and the delay.
+abbrev pub listenerOk : ℕ → Alarm → Bool
+listenerOk ni a = ltb (a .interrupt) ni && leb (a .delay .0) longestDuration
+
+-- A WHEN waits for its interrupt; what is to come has its instant.
+unfoldable pub alarmOk : ℕ → Alarm → Bool
+alarmOk ni a = (not (listening (a .plan)) || listenerOk ni a) && (not (pending (a .plan)) || isStored (a .next))
+
+-- Its last due, while one is to come.
+abbrev pub lastOk : Schedule → Bool
+lastOk s = not (pending (s .alarm .plan)) || momentOk (s .last)
+
 -- Priority, period and end of a schedule.
 abbrev pub termsOk : ℕ → Schedule → Bool
 termsOk day s = isPriority (s .priority) && isPeriod (s .period) && endOk day (s .end)
 
--- The declared interrupt that it waits for, and the delay.
-abbrev pub listenerOk : ℕ → Schedule → Bool
-listenerOk ni s = ltb (s .alarm .interrupt) ni && leb (s .alarm .delay .0) longestDuration
-
--- Its next due and its last.
-abbrev pub nextOk : Schedule → Bool
-nextOk s = isStored (s .alarm .next) && momentOk (s .last)
-
-unfoldable pub scheduleOk : ℕ → ℕ → Plan → Schedule → Bool
-scheduleOk day ni None s = true
-scheduleOk day ni Clock s = termsOk day s && nextOk s
-scheduleOk day ni Armed s = termsOk day s && listenerOk ni s
-scheduleOk day ni Triggered s = termsOk day s && listenerOk ni s && nextOk s
-
--- A terminated task waits for nothing, is unheld and has no start kept back.
-abbrev pub restOk : Task → Bool
-restOk t = t .alive || (not (isKept (t .kept)) && not (waiting (t .wait)) && unheld (t .hold))
+unfoldable pub scheduleOk : ℕ → ℕ → Schedule → Bool
+scheduleOk day ni s = not (planned (s .alarm .plan)) || (alarmOk ni (s .alarm) && lastOk s && termsOk day s)
 
 -- A wait's list names one to four numbers, none twice, all declared.
 abbrev pub waitOk : Counts → Task → Bool
@@ -93,7 +90,7 @@ taskOk day n t =
     && holdOk (t .hold)
     && restOk t
     && waitOk n t
-    && scheduleOk day (n .interrupts) (t .schedule .alarm .plan) (t .schedule)
+    && scheduleOk day (n .interrupts) (t .schedule)
 
 -- ---- the kernel
 

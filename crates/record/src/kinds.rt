@@ -9,7 +9,7 @@ pub const WHEN: u8 = 3;
 pub const WHEN_AFTER: u8 = 4;
 
 // Whether a start waits for an interrupt.
-pub(crate) fn is_on_interrupt(kind: u8) -> bool
+pub fn is_on_interrupt(kind: u8) -> bool
     ensures { λ r. ⌜ r ≡ onInterrupt kind ⌝ }
 {
     (kind == WHEN) | (kind == WHEN_AFTER)

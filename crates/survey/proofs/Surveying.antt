@@ -10,7 +10,7 @@ use Rattle.calendar.specs.Limits.{tick}
 use Rattle.calendar.specs.Times.{duration, plus}
 use Rattle.calendar.specs.declared.Instant.{Instant}
 use Rattle.lock.proofs.Bools.{byBool}
-use Rattle.task.specs.Schedules.{falls}
+use Rattle.task.specs.Alarms.{falls}
 use Rattle.task.specs.Turns.{delayEnds}
 use Rattle.machine.specs.State.{mostTasks, taskAt}
 use Rattle.machine.specs.Quiet.{comes}

@@ -2,77 +2,38 @@
 use mathlib.Core.Path.{_≡_, refl}
 use mathlib.Core.Bool.{Bool, true, false, not, _&&_, _||_, and-true, and-false, and-assoc, or-true, or-false}
 use Prim.Native.Nat.{ℕ}
-use lib.Dec.{eqb}
 use Rattle.calendar.specs.declared.Instant.{Instant}
 use Rattle.lock.specs.Locks.{waiting, grantable}
 use Rattle.lock.specs.declared.Locks.{Locks}
 use Rattle.lock.specs.declared.Wait.{Wait}
 use Rattle.lock.specs.declared.Wait.the-variants.{Nothing, Request, Reserve, Enter}
-use Rattle.lock.proofs.Bools.{contra}
+use Rattle.lock.proofs.Bools.{contra, neither}
 use Rattle.task.specs.State.{unheld, isKept, runnable, wanted}
-use Rattle.task.specs.Schedules.{pending, onInterrupt, falls}
+use Rattle.task.specs.Alarms.{pending, planned, falls}
 use Rattle.task.specs.Turns.{delayEnds}
 use Rattle.task.specs.declared.Alarm.{Alarm}
 use Rattle.task.specs.declared.Hold.{Hold}
 use Rattle.task.specs.declared.Hold.the-variants.{Unheld, Suspended, Delayed}
 use Rattle.task.specs.declared.Kept.{Kept}
 use Rattle.task.specs.declared.Kept.the-variants.{Empty, Back}
-use Rattle.task.specs.declared.Plan.{Plan}
-use Rattle.task.specs.declared.Plan.the-variants.{None, Clock, Armed, Triggered}
 use Rattle.task.specs.declared.Schedule.{Schedule}
 use Rattle.task.specs.declared.Task.{Task}
-use Rattle.machine.specs.Test.{isPriority, keptOk, holdOk, termsOk, listenerOk, nextOk, scheduleOk, taskOk}
+use Rattle.machine.specs.Test.{isPriority, keptOk, holdOk, scheduleOk, taskOk}
 use Rattle.machine.specs.declared.Counts.{Counts}
-use Rattle.survey.specs.Looks.{planned, atEase, waitSettled, busyOk}
+use Rattle.survey.specs.Looks.{atEase, waitSettled, busyOk}
 
 -- It passes its test and doesn't wait on a list that could be granted.
 unfoldable pub fit : ℕ → Counts → Locks → Task → Bool
 fit day n r t = taskOk day n t && not (waiting (t .wait) && grantable (t .wait) r (wanted t))
 
--- ---- a schedule
-
-module _ (day ni : ℕ) where
-  pub listener-odd : (p : Plan) (s : Schedule) → onInterrupt p ≡ true → listenerOk ni s ≡ false → scheduleOk day ni p s ≡ false
-  unfolding scheduleOk
-  listener-odd None s e f = contra e refl
-  listener-odd Clock s e f = contra e refl
-  listener-odd Armed s e f = rw (f, and-false)
-  listener-odd Triggered s e f = rw (f, and-false)
-
-  pub next-odd : (p : Plan) (s : Schedule) → pending p ≡ true → nextOk s ≡ false → scheduleOk day ni p s ≡ false
-  unfolding scheduleOk
-  next-odd None s e f = contra e refl
-  next-odd Clock s e f = rw (f, and-false)
-  next-odd Armed s e f = contra e refl
-  next-odd Triggered s e f = rw (f, and-false)
-
-  -- Where listener and next due are right or not asked for.
-  pub terms-left :
-      (p : Plan) (s : Schedule) → planned p ≡ true → (onInterrupt p ≡ true → listenerOk ni s ≡ true)
-      → (pending p ≡ true → nextOk s ≡ true) → scheduleOk day ni p s ≡ termsOk day s
-  unfolding scheduleOk
-  terms-left None s e f g = contra e refl
-  terms-left Clock s e f g = rw (g refl, and-true)
-  terms-left Armed s e f g = rw (f refl, and-true)
-  terms-left Triggered s e f g = rw (f refl, g refl, and-true, and-true)
-
 -- ---- no schedule
 
-pub plan-none : (day ni : ℕ) (p : Plan) (s : Schedule) → planned p ≡ false → scheduleOk day ni p s ≡ true
+pub plan-none : (day ni : ℕ) (s : Schedule) → planned (s .alarm .plan) ≡ false → scheduleOk day ni s ≡ true
 unfolding scheduleOk
-plan-none day ni None s e = refl
-plan-none day ni Clock s e = contra refl e
-plan-none day ni Armed s e = contra refl e
-plan-none day ni Triggered s e = contra refl e
+plan-none day ni s e = rw e
 
 pub falls-none : (x : Instant) (a : Alarm) → planned (a .plan) ≡ false → falls x a ≡ false
-falls-none x a = go (a .plan)
-  where
-    go : (p : Plan) → planned p ≡ false → (pending p && eqb (a .next .0) (x .0)) ≡ false
-    go None e = refl
-    go Clock e = contra refl e
-    go Armed e = refl
-    go Triggered e = contra refl e
+falls-none x a e = rw (neither (pending (a .plan)) _ e .0)
 
 -- ---- a start kept back: there is none, or its task lives and it has a priority
 
@@ -119,7 +80,7 @@ module _ (day : ℕ) (n : Counts) (r : Locks) (t : Task) where
   unfolding fit taskOk
   odd-priority e = rw e
 
-  pub odd-schedule : scheduleOk day (n .interrupts) (t .schedule .alarm .plan) (t .schedule) ≡ false → fit day n r t ≡ false
+  pub odd-schedule : scheduleOk day (n .interrupts) (t .schedule) ≡ false → fit day n r t ≡ false
   unfolding fit taskOk
   odd-schedule e = rw (e, and-false)
 
@@ -145,7 +106,7 @@ module _ (day : ℕ) (n : Counts) (r : Locks) (t : Task) where
 
   module _
       (priorities : (isPriority (t .declared) && isPriority (t .current)) ≡ true)
-      (schedule : scheduleOk day (n .interrupts) (t .schedule .alarm .plan) (t .schedule) ≡ true)
+      (schedule : scheduleOk day (n .interrupts) (t .schedule) ≡ true)
       (start : Starts (t .alive) (t .kept)) where
     pub fit-eased : atEase (t .wait) (t .hold) ≡ true → fit day n r t ≡ true
     unfolding fit taskOk

@@ -17,11 +17,11 @@ use Rattle.lock.specs.Locks.{mostLocks, waiting, every, grantable}
 use Rattle.lock.specs.declared.Locks.{Locks}
 use Rattle.lock.proofs.Bools.{byBool, contra, both, and-both}
 use Rattle.lock.proofs.Lists.{every-more}
-use Rattle.task.specs.State.{wanted}
+use Rattle.task.specs.State.{restOk, wanted}
 use Rattle.task.specs.declared.Task.{Task}
 use Rattle.machine.specs.State.{mostTasks, taskAt, countOf}
 use Rattle.machine.specs.Granting.{couldBeGranted}
-use Rattle.machine.specs.Test.{between, isPriority, keptOk, holdOk, restOk, waitOk, scheduleOk, taskOk, allBelow, countsOk, nobodyServable, valid}
+use Rattle.machine.specs.Test.{between, isPriority, keptOk, holdOk, waitOk, scheduleOk, taskOk, allBelow, countsOk, nobodyServable, valid}
 use Rattle.machine.specs.declared.Counts.{Counts}
 use Rattle.machine.specs.declared.State.{State}
 use Rattle.machine.proofs.Below.{all-at}
@@ -130,7 +130,7 @@ module _ (n : Counts) (r : Locks) (t : Task) {w : Bool} (waits : w ≡ waiting (
 pub wait-of : (day : ℕ) (n : Counts) (t : Task) → taskOk day n t ≡ true → waitOk n t ≡ true
 unfolding taskOk
 wait-of day n t e =
-    let s = scheduleOk day (n .interrupts) (t .schedule .alarm .plan) (t .schedule) in
+    let s = scheduleOk day (n .interrupts) (t .schedule) in
     let r = isPriority (t .declared) && isPriority (t .current) && keptOk (t .kept) && holdOk (t .hold) && restOk t in
     both r (waitOk n t) (both (r && waitOk n t) s e .0) .1
 

@@ -9,8 +9,6 @@ use Rattle.lock.specs.declared.Locks.{Locks}
 use Rattle.lock.specs.declared.Wait.{Wait}
 use Rattle.task.specs.State.{unheld, wanted}
 use Rattle.task.specs.declared.Hold.{Hold}
-use Rattle.task.specs.declared.Plan.{Plan}
-use Rattle.task.specs.declared.Plan.the-variants.{None, Clock, Armed, Triggered}
 use Rattle.task.specs.declared.Task.{Task}
 use Rattle.machine.specs.Sets.{put}
 use Rattle.machine.specs.State.{mostTasks, taskAt}
@@ -41,13 +39,6 @@ putIf i true n = put i n
 putIf i false n = n
 
 -- ---- one task
-
--- There is a schedule.
-abbrev pub planned : Plan → Bool
-planned None = false
-planned Clock = true
-planned Armed = true
-planned Triggered = true
 
 -- Waiting for nothing, unheld.
 abbrev pub atEase : Wait → Hold → Bool

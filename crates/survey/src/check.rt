@@ -5,10 +5,11 @@ ghost use Prim.Native.Nat.{_≤_};
 ghost use lib.Dec.{ltb};
 ghost use lib.ListN.{take};
 ghost use Rattle.lock.specs.Locks.{every};
-ghost use Rattle.survey.specs.Looks.{planned, atEase, waitSettled, busyOk};
+ghost use Rattle.survey.specs.Looks.{atEase, waitSettled, busyOk};
 ghost use Rattle.calendar.specs.Limits.{day};
+ghost use Rattle.task.specs.Alarms.{planned};
 ghost use Rattle.machine.specs.State.{countOf};
-ghost use Rattle.machine.specs.Test.{isPriority, isStored, holdOk, keptOk, endOk, momentOk, termsOk, listenerOk, nextOk, scheduleOk, countsOk};
+ghost use Rattle.machine.specs.Test.{isPriority, isStored, holdOk, keptOk, endOk, momentOk, listenerOk, alarmOk, lastOk, termsOk, scheduleOk, countsOk};
 use calendar::End;
 use calendar::Instant;
 use calendar::LONGEST_DURATION;
@@ -27,6 +28,7 @@ use machine::Counts;
 use machine::MOST_INTERRUPTS;
 use machine::MOST_TASKS;
 use record::lists::is_distinct;
+use task::Alarm;
 use task::Hold;
 use task::Kept;
 use task::Plan;
@@ -97,41 +99,53 @@ fn are_terms_ok(s: Schedule) -> bool
     is_end_ok(end)
 }
 
-fn is_listener_ok(interrupts: u8, s: Schedule) -> bool
-    ensures { λ r. ⌜ r ≡ listenerOk interrupts s ⌝ }
+fn is_listener_ok(interrupts: u8, a: Alarm) -> bool
+    ensures { λ r. ⌜ r ≡ listenerOk interrupts a ⌝ }
 {
-    let alarm = s.alarm;
-    (alarm.interrupt < interrupts) & (alarm.delay.0 <= LONGEST_DURATION)
+    (a.interrupt < interrupts) & (a.delay.0 <= LONGEST_DURATION)
 }
 
-fn is_next_ok(s: Schedule) -> bool
-    ensures { λ r. ⌜ r ≡ nextOk s ⌝ }
+// A WHEN waits for its interrupt; what is to come has its instant.
+fn is_alarm_ok(interrupts: u8, a: Alarm) -> bool
+    ensures { λ r. ⌜ r ≡ alarmOk interrupts a ⌝ }
+{
+    let plan = a.plan;
+    let next = a.next;
+    if plan.is_listening() {
+        if !is_listener_ok(interrupts, a) {
+            return false;
+        }
+    }
+    if plan.is_pending() {
+        return is_stored(next);
+    }
+    true
+}
+
+// The last due, while one is to come.
+fn is_last_ok(s: Schedule) -> bool
+    ensures { λ r. ⌜ r ≡ lastOk s ⌝ }
 {
     let alarm = s.alarm;
-    let next = alarm.next;
+    let plan = alarm.plan;
     let last = s.last;
-    if !is_stored(next) {
-        return false;
+    if plan.is_pending() {
+        return is_moment_ok(last);
     }
-    is_moment_ok(last)
+    true
 }
 
 // The test of a schedule that there is.
 pub fn is_schedule_ok(interrupts: u8, s: Schedule) -> bool
     requires { ⌜ planned (s .alarm .plan) ≡ true ⌝ }
-    ensures { λ r. ⌜ r ≡ scheduleOk day interrupts (s .alarm .plan) s ⌝ }
+    ensures { λ r. ⌜ r ≡ scheduleOk day interrupts s ⌝ }
 {
     let alarm = s.alarm;
-    let plan = alarm.plan;
-    if plan.is_on_interrupt() {
-        if !is_listener_ok(interrupts, s) {
-            return false;
-        }
+    if !is_alarm_ok(interrupts, alarm) {
+        return false;
     }
-    if plan.is_pending() {
-        if !is_next_ok(s) {
-            return false;
-        }
+    if !is_last_ok(s) {
+        return false;
     }
     are_terms_ok(s)
 }

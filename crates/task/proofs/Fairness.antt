@@ -13,9 +13,10 @@ use Rattle.task.specs.declared.Kept.the-variants.{Empty, Back}
 use Rattle.task.specs.declared.Schedule.{Schedule}
 use Rattle.task.specs.declared.Task.{Task}
 use Rattle.task.specs.declared.Turn.{Turn}
-use Rattle.task.specs.State.{unheld, isKept, wanted, withHold, withSchedule}
-use Rattle.task.specs.Schedules.{falls, advance}
-use Rattle.task.specs.Promises.{Rests, Fair, TurnsAreFair}
+use Rattle.task.specs.State.{unheld, isKept, restOk, wanted, withHold, withSchedule}
+use Rattle.task.specs.Alarms.{falls}
+use Rattle.task.specs.Schedules.{advance}
+use Rattle.task.specs.Promises.{Fair, TurnsAreFair}
 use Rattle.task.specs.Turns.{unmarked, dueIf, dueTurn, endIf, endTurn, preventTurn, suspendTurn, continueTurn, resumeTurn, delayEnds, wake, fallTurn, tickTurn, scheduleTurn}
 
 pub rest-facts : (a k w h : Bool) → (a || (not k && not w && h)) ≡ true → a ≡ false → (k ≡ false) × (w ≡ false) × (h ≡ true)
@@ -67,7 +68,7 @@ fair-after p t t′ u h f =
 
 -- ---- due and end
 
-fair-dueIf : (a : Bool) (k : Kept) (p : ℕ) (t : Task) → t .alive ≡ a → t .kept ≡ k → Rests t → Fair false t (dueIf a k p t)
+fair-dueIf : (a : Bool) (k : Kept) (p : ℕ) (t : Task) → t .alive ≡ a → t .kept ≡ k → restOk t ≡ true → Fair false t (dueIf a k p t)
 unfolding dueIf
 fair-dueIf false k p t ea ek r =
     let q = rest-facts (t .alive) (isKept (t .kept)) (waiting (t .wait)) (unheld (t .hold)) r ea in
@@ -83,7 +84,7 @@ fair-dueIf true Empty p t ea ek r =
 fair-dueIf true (Back q) p t ea ek r =
     record { starts = rw ek; ends = rw ea; lost = rw (ek, ea); waits = simp tests; wants = λ e. (refl, refl) }
 
-pub fair-due : (p : ℕ) (t : Task) → Rests t → Fair false t (dueTurn p t)
+pub fair-due : (p : ℕ) (t : Task) → restOk t ≡ true → Fair false t (dueTurn p t)
 fair-due p t r = fair-dueIf (t .alive) (t .kept) p t refl refl r
 
 fair-endIf : (k : Kept) (t : Task) → t .kept ≡ k → t .alive ≡ true → Fair false t (endIf k t)
@@ -123,24 +124,24 @@ fair-resume n t = fair-unmarked t _ (like-hold (Delayed n) t)
 
 -- ---- schedules
 
-pub fair-fall : (n : Instant) (t : Task) → Rests t → Fair false t (fallTurn n t)
+pub fair-fall : (n : Instant) (t : Task) → restOk t ≡ true → Fair false t (fallTurn n t)
 unfolding fallTurn
 fair-fall n t r =
     byBool (falls n (t .schedule .alarm))
     (λ e. rw e (fair-after false t (withSchedule (advance n (t .schedule)) t) _ (like-schedule _ t) (fair-due (t .schedule .priority) (withSchedule (advance n (t .schedule)) t) r)))
     (λ e. rw e (fair-unmarked t t (like-refl t)))
 
-pub wake-rests : (n : Instant) (t : Task) → Rests t → Rests (wake n t)
+pub wake-rests : (n : Instant) (t : Task) → restOk t ≡ true → restOk (wake n t) ≡ true
 unfolding wake
 wake-rests n t r =
     byBool (delayEnds n (t .hold)) (λ e. rw e (byBool (t .alive) (λ a. rw a) (λ a.
     let q = rest-facts (t .alive) (isKept (t .kept)) (waiting (t .wait)) (unheld (t .hold)) r a in rw (a, q .0, q .1))))
     (λ e. rw e r)
 
-pub fair-tick : (n : Instant) (t : Task) → Rests t → Fair false t (tickTurn n t)
+pub fair-tick : (n : Instant) (t : Task) → restOk t ≡ true → Fair false t (tickTurn n t)
 fair-tick n t r = fair-after false t (wake n t) _ (like-wake n t) (fair-fall n (wake n t) (wake-rests n t r))
 
-pub fair-schedule : (n : Instant) (s : Schedule) (t : Task) → Rests t → Fair false t (scheduleTurn n s t)
+pub fair-schedule : (n : Instant) (s : Schedule) (t : Task) → restOk t ≡ true → Fair false t (scheduleTurn n s t)
 fair-schedule n s t r = fair-after false t (withSchedule s t) _ (like-schedule s t) (fair-fall n (withSchedule s t) r)
 
 pub turns-are-fair : TurnsAreFair

@@ -5,8 +5,8 @@ use Prim.Native.Nat.{ℕ, zero, suc}
 use Rattle.calendar.specs.declared.Instant.{Instant}
 use Rattle.lock.proofs.Bools.{neither}
 use Rattle.task.specs.declared.Task.{Task}
-use Rattle.task.specs.Schedules.{falls}
-use Rattle.task.specs.Turns.{unmarked, orElse, delayEnds, wake, fallTurn, tickTurn, stirs, listens, triggerTurn}
+use Rattle.task.specs.Alarms.{falls, listens}
+use Rattle.task.specs.Turns.{unmarked, orElse, delayEnds, wake, fallTurn, tickTurn, stirs, triggerTurn}
 
 -- A tick that doesn't stir a task leaves it as it is.
 pub still : (n : Instant) (t : Task) → stirs n t ≡ false → tickTurn n t ≡ unmarked t
@@ -18,7 +18,7 @@ still n t e =
 -- A trigger of an interrupt that a task doesn't listen to leaves it as it is.
 pub deaf :
     (day clock : ℕ) (n : Instant) (i : ℕ) (t : Task) →
-    listens i (t .schedule) ≡ false → triggerTurn day clock n i t ≡ unmarked t
+    listens i (t .schedule .alarm) ≡ false → triggerTurn day clock n i t ≡ unmarked t
 unfolding triggerTurn
 deaf day clock n i t e = rw e
 

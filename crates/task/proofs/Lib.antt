@@ -2,5 +2,5 @@
 pub mod Fairness
 pub mod Triggers
 pub mod Waits
-pub mod Ranges
+pub mod Starts
 pub mod Laws

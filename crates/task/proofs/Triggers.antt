@@ -1,11 +1,10 @@
 -- What a trigger and a due leave of a schedule.
 use mathlib.Core.Path.{refl}
-use Rattle.calendar.specs.Dues.{firstDue}
-use Rattle.task.specs.Schedules.{advance, launch}
+use Rattle.task.specs.Schedules.{advance, lastOf}
 use Rattle.task.specs.Promises.{TriggerReplaces, AdvanceGoesOn}
 
 pub trigger-replaces : TriggerReplaces
-unfolding launch firstDue
+unfolding lastOf
 trigger-replaces day clock n s = (refl, refl, refl)
 
 pub advance-goes-on : AdvanceGoesOn

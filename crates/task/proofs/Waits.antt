@@ -10,8 +10,9 @@ use Rattle.task.specs.declared.Kept.the-variants.{Empty, Back}
 use Rattle.task.specs.declared.Schedule.{Schedule}
 use Rattle.task.specs.declared.Task.{Task}
 use Rattle.task.specs.State.{withHold, withSchedule}
-use Rattle.task.specs.Schedules.{falls, advance, setOff}
-use Rattle.task.specs.Turns.{dueIf, dueTurn, endIf, endTurn, preventTurn, suspendTurn, continueTurn, resumeTurn, delayEnds, wake, fallTurn, tickTurn, scheduleTurn, listens, triggerTurn}
+use Rattle.task.specs.Alarms.{falls, listens}
+use Rattle.task.specs.Schedules.{advance, triggered}
+use Rattle.task.specs.Turns.{dueIf, dueTurn, endIf, endTurn, preventTurn, suspendTurn, continueTurn, resumeTurn, delayEnds, wake, fallTurn, tickTurn, scheduleTurn, triggerTurn}
 
 abbrev pub SameWait : Task → Task → Type 0
 SameWait t u = (u .wait ≡ t .wait) × (u .len ≡ t .len) × (u .list ≡ t .list)
@@ -72,4 +73,4 @@ module _ (t : Task) where
   pub no-wait-trigger : (day clock : ℕ) (n : Instant) (i : ℕ) → NoNewWait t (triggerTurn day clock n i t .task)
   unfolding triggerTurn
   no-wait-trigger day clock n i =
-      byBool (listens i (t .schedule)) (λ e. rw e (no-wait-schedule n (setOff day clock n (t .schedule)))) (λ e. rw e (stays t))
+      byBool (listens i (t .schedule .alarm)) (λ e. rw e (no-wait-schedule n (triggered day clock n (t .schedule)))) (λ e. rw e (stays t))

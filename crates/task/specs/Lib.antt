@@ -1,5 +1,6 @@
 -- The rules of one task, in the order to read them.
 pub mod State
+pub mod Alarms
 pub mod Schedules
 pub mod Turns
 -- What they keep.

@@ -11,13 +11,10 @@ use Rattle.task.specs.declared.Plan.the-variants.{Armed, Triggered}
 use Rattle.task.specs.declared.Schedule.{Schedule}
 use Rattle.task.specs.declared.Task.{Task}
 use Rattle.task.specs.declared.Turn.{Turn}
-use Rattle.task.specs.State.{noSchedule, unheld, isKept, wanted}
-use Rattle.task.specs.Schedules.{onInterrupt, advance, setOff}
+use Rattle.task.specs.State.{noSchedule, isKept, restOk, wanted}
+use Rattle.task.specs.Alarms.{listening}
+use Rattle.task.specs.Schedules.{advance, triggered}
 use Rattle.task.specs.Turns.{dueTurn, endTurn, preventTurn, suspendTurn, continueTurn, resumeTurn, tickTurn, scheduleTurn}
-
--- A terminated task waits for nothing, is unheld and has no start kept back.
-abbrev pub Rests : Task → Type 0
-Rests t = (t .alive || (not (isKept (t .kept)) && not (waiting (t .wait)) && unheld (t .hold))) ≡ true
 
 -- A turn is fair; p says whether it is that of a PREVENT.
 pub record Fair (p : Bool) (t : Task) (u : Turn) : Type 0 where
@@ -33,28 +30,28 @@ pub record Fair (p : Bool) (t : Task) (u : Turn) : Type 0 where
 
 -- Every turn is fair; a trigger's and an activation's are a due's, a schedule's, or none of their own.
 pub record TurnsAreFair : Type 0 where
-  pub due : (p : ℕ) (t : Task) → Rests t → Fair false t (dueTurn p t)
+  pub due : (p : ℕ) (t : Task) → restOk t ≡ true → Fair false t (dueTurn p t)
   pub end : (t : Task) → t .alive ≡ true → Fair false t (endTurn t)
   pub prevent : (t : Task) → Fair true t (preventTurn t)
   pub suspend : (t : Task) → Fair false t (suspendTurn t)
   pub continue : (p : ℕ) (t : Task) → Fair false t (continueTurn p t)
   pub resume : (n : Instant) (t : Task) → Fair false t (resumeTurn n t)
-  pub tick : (n : Instant) (t : Task) → Rests t → Fair false t (tickTurn n t)
-  pub schedule : (n : Instant) (s : Schedule) (t : Task) → Rests t → Fair false t (scheduleTurn n s t)
+  pub tick : (n : Instant) (t : Task) → restOk t ≡ true → Fair false t (tickTurn n t)
+  pub schedule : (n : Instant) (s : Schedule) (t : Task) → restOk t ≡ true → Fair false t (scheduleTurn n s t)
 
 -- A trigger replaces whatever was to come: first and last are computed anew from n, with no regard to the old ones.
 abbrev pub TriggerReplaces : Type 0
 TriggerReplaces =
     (day clock : ℕ) (n : Instant) (s : Schedule)
-    → (setOff day clock n s .alarm .plan ≡ Triggered)
-    × (setOff day clock n s .alarm .next ≡ plus n (s .alarm .delay))
-    × (setOff day clock n s .last ≡ lastAllowed day (s .end) clock (plus n (s .alarm .delay)))
+    → (triggered day clock n s .alarm .plan ≡ Triggered)
+    × (triggered day clock n s .alarm .next ≡ plus n (s .alarm .delay))
+    × (triggered day clock n s .last ≡ lastAllowed day (s .end) clock (plus n (s .alarm .delay)))
 
 -- What a due leaves of a schedule, by what the calendar says comes next.
 pub record AdvanceGoesOn : Type 0 where
   pub next : (n m : Instant) (s : Schedule) → nextDue (s .period) (s .last) n ≡ At m
       → (advance n s .alarm .plan ≡ s .alarm .plan) × (advance n s .alarm .next ≡ m) × (advance n s .last ≡ s .last)
-  pub armed : (n : Instant) (s : Schedule) → nextDue (s .period) (s .last) n ≡ Never → onInterrupt (s .alarm .plan) ≡ true
+  pub armed : (n : Instant) (s : Schedule) → nextDue (s .period) (s .last) n ≡ Never → listening (s .alarm .plan) ≡ true
       → advance n s .alarm .plan ≡ Armed
-  pub gone : (n : Instant) (s : Schedule) → nextDue (s .period) (s .last) n ≡ Never → onInterrupt (s .alarm .plan) ≡ false
+  pub gone : (n : Instant) (s : Schedule) → nextDue (s .period) (s .last) n ≡ Never → listening (s .alarm .plan) ≡ false
       → advance n s ≡ noSchedule

@@ -1,5 +1,5 @@
 -- One task as document 01 has it, and the task with one part changed.
-use mathlib.Core.Bool.{Bool, true, false, not, _&&_}
+use mathlib.Core.Bool.{Bool, true, false, not, _&&_, _||_}
 use mathlib.Core.List.{List, []}
 use Prim.Native.Nat.{ℕ}
 use lib.ListN.{take}
@@ -60,6 +60,10 @@ isKept (Back p) = true
 -- Could run if nobody more urgent could.
 abbrev pub runnable : Task → Bool
 runnable t = t .alive && unheld (t .hold) && not (waiting (t .wait))
+
+-- A terminated task waits for nothing, is unheld and has no start kept back.
+abbrev pub restOk : Task → Bool
+restOk t = t .alive || (not (isKept (t .kept)) && not (waiting (t .wait)) && unheld (t .hold))
 
 -- The numbers that a waiting task's list names.
 abbrev pub wanted : Task → List ℕ

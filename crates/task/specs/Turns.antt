@@ -11,7 +11,8 @@ use Rattle.task.specs.declared.Schedule.{Schedule}
 use Rattle.task.specs.declared.Task.{Task}
 use Rattle.task.specs.declared.Turn.{Turn}
 use Rattle.task.specs.State.{noSchedule, isKept, withCurrent, withAlive, withKept, withHold, withSchedule, waitOver}
-use Rattle.task.specs.Schedules.{onInterrupt, falls, advance, setOff}
+use Rattle.task.specs.Alarms.{falls, listens}
+use Rattle.task.specs.Schedules.{advance, triggered}
 
 -- A turn that marks nothing.
 abbrev pub unmarked : Task → Turn
@@ -107,11 +108,7 @@ stirs n t = delayEnds n (t .hold) || falls n (t .schedule .alarm)
 abbrev pub scheduleTurn : Instant → Schedule → Task → Turn
 scheduleTurn n s t = fallTurn n (withSchedule s t)
 
--- A WHEN schedule on interrupt i.
-abbrev pub listens : ℕ → Schedule → Bool
-listens i s = onInterrupt (s .alarm .plan) && eqb (s .alarm .interrupt) i
-
 -- TRIGGER of the enabled interrupt i at n.
 unfoldable pub triggerTurn : ℕ → ℕ → Instant → ℕ → Task → Turn
 triggerTurn day clock n i t =
-    cond (listens i (t .schedule)) (scheduleTurn n (setOff day clock n (t .schedule)) t) (unmarked t)
+    cond (listens i (t .schedule .alarm)) (scheduleTurn n (triggered day clock n (t .schedule)) t) (unmarked t)

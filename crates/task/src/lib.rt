@@ -1,4 +1,5 @@
 // One task: its priorities, wait, hold, kept-back start and schedule.
+pub mod alarms;
 pub mod schedules;
 pub mod turns;
 
@@ -20,7 +21,7 @@ pub enum Kept {
     Back(u8),
 }
 
-// No schedule; one that waits for its next due; one that waits for its interrupt; one that its interrupt
+// No alarm; one that waits for its next due; one that waits for its interrupt; one that its interrupt
 // set off and that waits for its next due.
 pub enum Plan {
     None,
@@ -29,7 +30,7 @@ pub enum Plan {
     Triggered,
 }
 
-// The part of a schedule that comes due. The delay runs from a trigger; 0 is none.
+// What comes due. Only a WHEN has an interrupt and a delay, which runs from the trigger; 0 is none.
 pub struct Alarm {
     pub plan: Plan,
     pub interrupt: u8,

@@ -1,9 +1,9 @@
-// One schedule: when it falls due, what a due leaves of it, what a trigger sets off.
+// One schedule: what a due leaves of it, and how it begins.
 ghost use mathlib.Core.Path.{_≡_};
 ghost use Prim.Native.Nat.{_≤_};
 ghost use Rattle.calendar.specs.Limits.{day, lastInstant, mostInstant};
 ghost use Rattle.task.specs.State.{noSchedule};
-ghost use Rattle.task.specs.Schedules.{pending, onInterrupt, withAlarm, falls, advance, launch, setOff};
+ghost use Rattle.task.specs.Schedules.{withAlarm, advance, lastOf, begun, triggered};
 use crate::Alarm;
 use crate::Plan;
 use crate::Schedule;
@@ -11,48 +11,20 @@ use calendar::Duration;
 use calendar::End;
 use calendar::Instant;
 use calendar::Moment;
-use calendar::Start;
-use calendar::first_due;
 use calendar::last_allowed;
 use calendar::next_due;
 
-impl Plan {
-    // Something is to come at a known instant.
-    pub fn is_pending(self) -> bool
-        ensures { λ r. ⌜ r ≡ pending self ⌝ }
-    {
-        match self {
-            Plan::None => false,
-            Plan::Clock => true,
-            Plan::Armed => false,
-            Plan::Triggered => true,
-        }
+// The last allowed due, counted from the one to come.
+fn last_of(end: End, clock: u32, alarm: Alarm) -> Moment
+    requires { ⌜ alarm .next .0 ≤ mostInstant ⌝ }
+    ensures { λ r. ⌜ r ≡ lastOf day clock end alarm ⌝ }
+{
+    let plan = alarm.plan;
+    let next = alarm.next;
+    if plan.is_pending() {
+        return last_allowed(end, clock, next);
     }
-
-    // A WHEN schedule.
-    pub fn is_on_interrupt(self) -> bool
-        ensures { λ r. ⌜ r ≡ onInterrupt self ⌝ }
-    {
-        match self {
-            Plan::None => false,
-            Plan::Clock => false,
-            Plan::Armed => true,
-            Plan::Triggered => true,
-        }
-    }
-}
-
-impl Alarm {
-    // Whether the schedule comes due at n.
-    pub fn falls_on(self, n: Instant) -> bool
-        ensures { λ r. ⌜ r ≡ falls n self ⌝ }
-    {
-        let plan = self.plan;
-        if plan.is_pending() {
-            return self.next.0 == n.0;
-        }
-        false
-    }
+    Moment::Never
 }
 
 impl Schedule {
@@ -74,16 +46,10 @@ impl Schedule {
         }
     }
 
-    fn with_alarm(self, plan: Plan, next: Instant, last: Moment) -> Schedule
-        ensures { λ r. ⌜ r ≡ withAlarm plan next last self ⌝ }
+    fn with_alarm(self, alarm: Alarm) -> Schedule
+        ensures { λ r. ⌜ r ≡ withAlarm alarm self ⌝ }
     {
-        let old = self.alarm;
-        let alarm = Alarm { plan, next, ..old };
-        Schedule {
-            alarm,
-            last,
-            ..self
-        }
+        Schedule { alarm, ..self }
     }
 
     // After a due at n.
@@ -96,34 +62,38 @@ impl Schedule {
         let plan = alarm.plan;
         let next = next_due(self.period, last, n);
         match next {
-            Moment::At(m) => self.with_alarm(plan, m, last),
+            Moment::At(m) => self.with_alarm(alarm.coming_at(plan, m)),
             Moment::Never => {
-                if plan.is_on_interrupt() {
-                    return self.with_alarm(Plan::Armed, alarm.next, last);
+                if plan.is_listening() {
+                    return self.with_alarm(alarm.rearmed());
                 }
                 Schedule::none()
             }
         }
     }
 
-    // First due and last allowed due computed at n, replacing whatever was to come.
-    pub fn launch(self, clock: u32, plan: Plan, start: Start, n: Instant) -> Schedule
-        requires { ⌜ n .0 ≤ lastInstant ⌝ }
-        ensures { λ r. ⌜ r ≡ launch day clock plan start n self ⌝ }
+    // One that begins with an alarm.
+    pub fn begin(alarm: Alarm, end: End, period: u32, priority: u8, clock: u32) -> Schedule
+        requires { ⌜ alarm .next .0 ≤ mostInstant ⌝ }
+        ensures { λ r. ⌜ r ≡ begun day clock alarm end period priority ⌝ }
     {
-        let first = first_due(start, clock, n);
-        let end = self.end;
-        let last = last_allowed(end, clock, first);
-        self.with_alarm(plan, first, last)
+        let last = last_of(end, clock, alarm);
+        Schedule {
+            alarm,
+            last,
+            end,
+            period,
+            priority,
+        }
     }
 
-    // What a trigger at n sets off.
-    pub fn set_off(self, clock: u32, n: Instant) -> Schedule
+    // A trigger at n begins it anew.
+    pub fn trigger(self, clock: u32, n: Instant) -> Schedule
         requires { ⌜ n .0 ≤ lastInstant ⌝ }
-        ensures { λ r. ⌜ r ≡ setOff day clock n self ⌝ }
+        ensures { λ r. ⌜ r ≡ triggered day clock n self ⌝ }
     {
         let alarm = self.alarm;
-        let delay = alarm.delay;
-        self.launch(clock, Plan::Triggered, Start::After(delay), n)
+        let end = self.end;
+        Schedule::begin(alarm.set_off(n), end, self.period, self.priority, clock)
     }
 }

@@ -3,7 +3,8 @@ ghost use mathlib.Core.Path.{_≡_};
 ghost use Prim.Native.Nat.{_≤_};
 ghost use Rattle.calendar.specs.Limits.{day, lastInstant, mostInstant};
 ghost use Rattle.task.specs.State.{runnable, waitOver, waitFor, unheld, suspended, isKept, withCurrent, withAlive, withKept, withHold, withSchedule};
-ghost use Rattle.task.specs.Turns.{unmarked, cleared, dueTurn, endTurn, preventTurn, orElse, suspendTurn, continueTurn, resumeTurn, delayEnds, wake, fallTurn, tickTurn, scheduleTurn, listens, triggerTurn};
+ghost use Rattle.task.specs.Alarms.{listens};
+ghost use Rattle.task.specs.Turns.{unmarked, cleared, dueTurn, endTurn, preventTurn, orElse, suspendTurn, continueTurn, resumeTurn, delayEnds, wake, fallTurn, tickTurn, scheduleTurn, triggerTurn};
 use crate::Hold;
 use crate::Kept;
 use crate::Schedule;
@@ -266,15 +267,11 @@ impl Task {
 
     // Whether the task has a WHEN schedule on interrupt i.
     pub fn listens_to(self, i: u8) -> bool
-        ensures { λ r. ⌜ r ≡ listens i (self .schedule) ⌝ }
+        ensures { λ r. ⌜ r ≡ listens i (self .schedule .alarm) ⌝ }
     {
         let s = self.schedule;
         let alarm = s.alarm;
-        let plan = alarm.plan;
-        if plan.is_on_interrupt() {
-            return alarm.interrupt == i;
-        }
-        false
+        alarm.listens_to(i)
     }
 
     // TRIGGER of the enabled interrupt i at n.
@@ -284,8 +281,7 @@ impl Task {
     {
         if self.listens_to(i) {
             let s = self.schedule;
-            let off = s.set_off(clock, n);
-            return self.plan(off, n);
+            return self.plan(s.trigger(clock, n), n);
         }
         Turn::unmarked(self)
     }

@@ -8,7 +8,7 @@ use Prim.Native.Nat.{_-_, _<_, _≤_}
 use native.Mathlib.Omega.{arith}
 use Rattle.calendar.specs.Limits.{day}
 use Rattle.calendar.specs.declared.Instant.{Instant}
-use Rattle.task.specs.Schedules.{falls}
+use Rattle.task.specs.Alarms.{falls}
 use Rattle.task.specs.Turns.{delayEnds}
 use Rattle.task.specs.declared.Task.{Task}
 use Rattle.machine.specs.State.{mostTasks, taskAt}
@@ -82,10 +82,10 @@ prior c = c .before .before .before .before .before .before
 priorities : (c : S) → let t = one (here (prior c)) in (isPriority (t .declared) && isPriority (t .current)) ≡ true
 priorities c = sym (prior c .are-priorities .ensures) ∙ not-false _ (c .before .before .before .before .before .if2 .left)
 
-schedule : (c : S) → let i = here (prior c) in let s = one i .schedule in scheduleOk day (state (passed i) .counts .interrupts) (s .alarm .plan) s ≡ true
+schedule : (c : S) → let i = here (prior c) in let s = one i .schedule in scheduleOk day (state (passed i) .counts .interrupts) s ≡ true
 schedule c =
     ⊎-elim (λ w. sym (w .3 .ensures) ∙ not-false _ (w .4 .left))
-    (λ w. plan-none day _ _ _ (sym (c .before .is-planned .ensures) ∙ w .0 .left)) (c .if3 .came)
+    (λ w. plan-none day _ _ (sym (c .before .is-planned .ensures) ∙ w .0 .left)) (c .if3 .came)
 
 falling : (c : S) → let i = here (prior c) in c .if3 .stirs ≡ (i .before .loop .stirs || falls (moment i) (one i .schedule .alarm))
 falling c =

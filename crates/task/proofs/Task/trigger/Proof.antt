@@ -1,4 +1,4 @@
--- By the test of the schedule.
+-- By the test of the alarm.
 use borrow.Author.Needs.{needs}
 use Rattle.task.specs.Turns.{triggerTurn}
 use Rattle.task.proofs.Task.trigger.Statement.{statement}
@@ -7,15 +7,15 @@ use Rattle.task.proofs.Task.trigger.Tie as tie
 listens-to-requires : tie.Need-listens-to-requires
 listens-to-requires c κs = search needs
 
-set-off-requires : tie.Need-set-off-requires
-set-off-requires c κs = search needs
+trigger-requires : tie.Need-trigger-requires
+trigger-requires c κs = search needs
 
 plan-requires : tie.Need-plan-requires
 plan-requires c κs = search needs
 
 returns : tie.Need-returns
 unfolding triggerTurn
-returns c = rw (← c .before .before .before .before .listens-to .ensures, c .before .before .before .if1 .taken, ← c .before .set-off .ensures) (c .plan .ensures)
+returns c = rw (← c .before .before .before .before .listens-to .ensures, c .before .before .before .if1 .taken, ← c .before .trigger .ensures) (c .plan .ensures)
 
 unmarked-requires : tie.Need-unmarked-requires
 unmarked-requires c κs = search needs
@@ -29,7 +29,7 @@ trigger-spec =
     tie.close
     (tie.spec
     listens-to-requires
-    set-off-requires
+    trigger-requires
     plan-requires
     returns
     unmarked-requires

@@ -1,9 +1,9 @@
 -- By the kind, with the priority given or the declared one.
 use borrow.Author.Needs.{needs}
 use borrow.Author.Tests.{ne-eqb}
-use Rattle.machine.specs.Calls.{activateTurn}
-use Rattle.calls.proofs.turns.activate.Statement.{statement}
-use Rattle.calls.proofs.turns.activate.Tie as tie
+use Rattle.machine.specs.Activation.{activateTurn}
+use Rattle.calls.proofs.activate.activate.Statement.{statement}
+use Rattle.calls.proofs.activate.activate.Tie as tie
 
 or-else-requires : tie.Need-or-else-requires
 or-else-requires c κs = search needs

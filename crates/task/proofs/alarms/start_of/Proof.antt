@@ -1,7 +1,7 @@
 -- Arm by arm.
-use Rattle.calls.proofs.TurnCases.{start-after, start-now}
-use Rattle.calls.proofs.turns.start_of.Statement.{statement}
-use Rattle.calls.proofs.turns.start_of.Tie as tie
+use Rattle.task.proofs.Starts.{start-after, start-now}
+use Rattle.task.proofs.alarms.start_of.Statement.{statement}
+use Rattle.task.proofs.alarms.start_of.Tie as tie
 
 returns : tie.Need-returns
 returns c = rw (c .match .keys1)

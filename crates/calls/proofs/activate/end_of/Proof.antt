@@ -1,8 +1,8 @@
 -- Arm by arm.
 use borrow.Author.Needs.{needs}
 use Rattle.calls.proofs.TurnCases.{end-during}
-use Rattle.calls.proofs.turns.end_of.Statement.{statement}
-use Rattle.calls.proofs.turns.end_of.Tie as tie
+use Rattle.calls.proofs.activate.end_of.Statement.{statement}
+use Rattle.calls.proofs.activate.end_of.Tie as tie
 
 returns : tie.Need-returns
 returns c = search needs
