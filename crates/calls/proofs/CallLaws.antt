@@ -10,16 +10,18 @@ use Rattle.layout.specs.Marks.{form}
 use Rattle.layout.specs.declared.Call.{Call}
 use Rattle.layout.specs.declared.Head.{Head}
 use Rattle.layout.specs.declared.Mark.{Mark}
-use Rattle.layout.specs.declared.Mark.the-variants.{DS}
+use Rattle.layout.specs.declared.Mark.the-variants.{DS, TI}
 use Rattle.layout.specs.declared.Form.the-variants.{Preset}
+use Rattle.layout.proofs.MarksLaws.{is-mark}
 use Rattle.record.specs.Lists.{distinct}
-use Rattle.record.specs.Reading.{callWith}
+use Rattle.record.specs.Reading.{callWith, refused, accepted, opened, orRefused}
 use Rattle.record.specs.Refusals.{mostNumbers, mostValue, named, uses, cleanNames, cleanStart, ranged}
 use Rattle.record.specs.declared.Read.the-variants.{Refused, Accepted}
 use Rattle.record.specs.declared.Reading.{Reading}
 use Rattle.lock.specs.Locks.{mostLocks, every}
 use Rattle.lock.specs.declared.Wait.{Wait}
 use Rattle.lock.proofs.Bools.{byBool, contra, both}
+use Rattle.machine.specs.declared.Counts.{Counts}
 use Rattle.machine.specs.declared.State.{State}
 use Rattle.machine.specs.declared.Running.{Running}
 use Rattle.machine.specs.declared.Running.the-variants.{Idle, Runs}
@@ -30,12 +32,13 @@ use Rattle.machine.specs.State.{mostTasks, taskAt}
 use Rattle.machine.specs.Running.{runner}
 use Rattle.machine.specs.Test.{valid}
 use Rattle.machine.specs.Sorts.{sortOf, declaring, declares, placeOf, runnerAt}
-use Rattle.machine.specs.Refusals.{listDeclared, declaredBy, formalRefusal, admitted, refusalBy, stateRefusal}
-use Rattle.machine.specs.Calls.{declaration, workBy}
+use Rattle.machine.specs.Refusals.{listDeclared, declaredBy, formalRefusal, admittedIf, admitted, refusalBy, stateRefusal}
+use Rattle.machine.specs.Calls.{declaration, tick, workBy}
 use Rattle.machine.specs.Step.{refuse, declared, finish, orRefuse, carryOut, settle, stepRead, step}
 use Rattle.machine.proofs.Urgency.{Below, runner-below}
 use Rattle.machine.proofs.Passed.{Formal, formal, formal-as}
-use Rattle.machine.proofs.Sorts.{listing, list-mark, list-shape, no-list}
+use Rattle.machine.proofs.Cases.{opened-cases}
+use Rattle.machine.proofs.Sorts.{listing, tick-mark, list-mark, list-shape, no-list}
 use Rattle.calls.specs.Inner.{InOrder}
 use Rattle.calls.proofs.AskLaws.{list-below}
 use Rattle.calls.proofs.RefusalLaws.{refusal-by}
@@ -117,6 +120,13 @@ module _ (day : ℕ) (k : State) (h : Head) (l : List ℕ) where
   refused-as zero m s e f z = absurd (z refl)
   refused-as (suc n) m s e f z = ap (refuse k (suc n)) e ∙ ap (λ x. orRefuse k x s) f
 
+  -- What the state refuses, seen from the task i that the call is about.
+  pub ground : {r : Running} {s : Sort} {i n : ℕ} → r ≡ runner k → s ≡ sortOf (h .mark) → i ≡ placeOf s h r
+      → n ≡ refusalBy (h .mark) call r (taskAt (k .tasks) i) (k .locks) (k .now) → n ≡ stateRefusal (h .mark) k call
+  ground {r} {s} e q p g =
+      g ∙ ap (λ (x : ℕ). refusalBy (h .mark) call r (taskAt (k .tasks) x) (k .locks) (k .now)) (p ∙ ap (λ (x : Sort). placeOf x h r) q)
+      ∙ ap (λ (x : Running). refusalBy (h .mark) call x (taskAt (k .tasks) (placeOf (sortOf (h .mark)) h x)) (k .locks) (k .now)) e
+
   pub settled-refused : {n : ℕ} {r : Running} → r ≡ runner k → n ≡ stateRefusal (h .mark) k call → (n ≡ 0 → ⊥) → refuse k n r ≡ settle day k call
   unfolding settle
   settled-refused {n = n} e f z = refused-as n _ _ e f z
@@ -137,6 +147,48 @@ module _ (day : ℕ) (k : State) (h : Head) (l : List ℕ) where
   pub settled-call : declares (h .mark) ≡ false → stateRefusal (h .mark) k call ≡ 0 → {s : Sort} → s ≡ sortOf (h .mark) → finish k (workBy day s k call) ≡ settle day k call
   unfolding settle carryOut
   settled-call d e q = rw (d, e, q)
+
+  pub settled-tick : sortOf (h .mark) ≡ EveryTask → orRefuse k (stateRefusal TI k call) (finish k (tick k)) ≡ settle day k call
+  unfolding settle carryOut declares workBy
+  settled-tick q =
+      let m = is-mark (h .mark) TI (tick-mark (h .mark) q) in
+      let ticks : finish k (tick k) ≡ carryOut day k call = rw q in
+      ap (λ (x : Mark). orRefuse k (stateRefusal x k call) (finish k (tick k))) (sym m) ∙ ap (orRefuse k (stateRefusal (h .mark) k call)) ticks
+
+-- ---- bytes
+
+module _ (day : ℕ) (n : Counts) (begun : Bool) (s : List ℕ) {r : Reading} (o : r ≡ opened s) where
+  pub admit-unread : {m : ℕ} → r .answer ≡ Refused m → opened s ≡ admitted day n begun s
+  unfolding admittedIf
+  admit-unread e = rw (← o, e)
+
+  module _ {h : Head} (e : r .answer ≡ Accepted h) where
+    pub admit-refused : {m : ℕ} → m ≡ formalRefusal day n begun (callWith h (r .list)) → (m ≡ 0 → ⊥) → refused m ≡ admitted day n begun s
+    unfolding admittedIf
+    admit-refused {m} q z = rw (← o, e, ← q) (go m _ z)
+      where
+        go : (m : ℕ) (x : Reading) → (m ≡ 0 → ⊥) → refused m ≡ orRefused m x
+        go zero x z = absurd (z refl)
+        go (suc m) x z = refl
+
+    pub admit-passed : formalRefusal day n begun (callWith h (r .list)) ≡ 0 → r ≡ admitted day n begun s
+    unfolding admittedIf
+    admit-passed q = rw (← o, e, q)
+
+-- What is admitted has passed.
+pub admitted-formal : (day : ℕ) (n : Counts) (begun : Bool) (s : List ℕ) {r : Reading} {h : Head} → r ≡ admitted day n begun s → r .answer ≡ Accepted h
+    → formalRefusal day n begun (callWith h (r .list)) ≡ 0
+unfolding admittedIf
+admitted-formal day n begun s {r} {h} o e =
+    opened-cases s (λ x. r ≡ admittedIf day n begun (x .answer) x → formalRefusal day n begun (callWith h (r .list)) ≡ 0)
+    (λ q. let z : Refused 2 ≡ Accepted h = sym (ap (λ (x : Reading). x .answer) q) ∙ e in let y : _≡_ {A = ℕ} 0 1 = cc in absurd (omega arith))
+    (λ c q. go c (formalRefusal day n begun c) refl q) o
+  where
+    go : (c : Call) (m : ℕ) → formalRefusal day n begun c ≡ m → r ≡ orRefused m (accepted c) → formalRefusal day n begun (callWith h (r .list)) ≡ 0
+    go c zero f q =
+        let x : c .head ≡ h = let z : Accepted (c .head) ≡ Accepted h = sym (ap (λ (x : Reading). x .answer) q) ∙ e in cc in
+        rw (q, ← x) f
+    go c (suc m) f q = let z : Refused (suc m) ≡ Accepted h = sym (ap (λ (x : Reading). x .answer) q) ∙ e in let y : _≡_ {A = ℕ} 0 1 = cc in absurd (omega arith)
 
 -- ---- the step
 

@@ -23,11 +23,11 @@ use Rattle.task.specs.declared.Turn.{Turn}
 use Rattle.task.proofs.Waits.{NoNewWait}
 use Rattle.machine.specs.Sets.{setOf}
 use Rattle.machine.specs.State.{mostTasks, taskAt, enabledAt, withState, begunAt}
-use Rattle.machine.specs.Work.{noWork, turns, everyTurn}
+use Rattle.machine.specs.Work.{onlyEnabled, turns, everyTurn}
 use Rattle.machine.specs.Running.{runner, runningOf}
 use Rattle.machine.specs.Serving.{nextServed}
 use Rattle.machine.specs.Test.{valid}
-use Rattle.machine.specs.Refusals.{stateRefusalOf}
+use Rattle.machine.specs.Refusals.{refusalBy, stateRefusal}
 use Rattle.machine.specs.Calls.{trigger}
 use Rattle.machine.specs.Step.{refuse, finish, orRefuse}
 use Rattle.machine.specs.declared.State.{State}
@@ -247,12 +247,12 @@ every-unserved k n f a b h e = rw (a, b) (unserved-finish (everyDone k n f) (mar
 
 -- ---- a tick at the last instant is refused
 
-pub tick-early : (k : State) (c : Call) (s : Stepped) → k .now .0 < lastInstant → s ≡ orRefuse k (stateRefusalOf TI k c) s
-unfolding stateRefusalOf
+pub tick-early : (k : State) (c : Call) (s : Stepped) → k .now .0 < lastInstant → s ≡ orRefuse k (stateRefusal TI k c) s
+unfolding refusalBy
 tick-early k c s l = rw (lt-ltb _ _ l)
 
-pub tick-late : (k : State) (c : Call) (s : Stepped) → lastInstant ≤ k .now .0 → refuse k 15 (runner k) ≡ orRefuse k (stateRefusalOf TI k c) s
-unfolding stateRefusalOf
+pub tick-late : (k : State) (c : Call) (s : Stepped) → lastInstant ≤ k .now .0 → refuse k 15 (runner k) ≡ orRefuse k (stateRefusal TI k c) s
+unfolding refusalBy
 tick-late k c s l = rw (le-ltb _ _ l)
 
 -- ---- a disabled interrupt changes nothing
@@ -262,6 +262,6 @@ module _ (day : ℕ) (k : State) (i : ℕ) where
   unfolding trigger
   trigger-on e = rw e
 
-  pub trigger-off : enabledAt k i ≡ false → trigger day k i ≡ noWork k
+  pub trigger-off : enabledAt k i ≡ false → trigger day k i ≡ onlyEnabled k (k .enabled)
   unfolding trigger
   trigger-off e = rw e

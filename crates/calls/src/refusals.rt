@@ -28,11 +28,11 @@ use machine::Running;
 use machine::Sort;
 use record::Read;
 use record::Reading;
+use record::kinds::WHEN;
+use record::kinds::WHEN_AFTER;
 use record::reader::open;
 use record::reader::refuse;
 use record::shape::shape_at;
-use record::kinds::WHEN;
-use record::kinds::WHEN_AFTER;
 use record::times::times_of;
 use serving::ends::is_someone;
 use survey::check::are_below;
@@ -142,7 +142,7 @@ fn named_refusal(h: Head, t: Task) -> u8
     let mark = h.mark;
     let hold = t.hold;
     match mark {
-        Mark::AC => unless(!((h.kind == 0) & t.alive), 9, 0),
+        Mark::AC => unless(!(h.kind == 0) | !t.alive, 9, 0),
         Mark::TE => unless(t.alive, 10, 0),
         Mark::SU => unless(t.alive, 10, unless(!hold.is_suspended(), 11, 0)),
         Mark::CO => unless(t.alive, 10, unless(!hold.is_unheld(), 12, 0)),
@@ -183,7 +183,11 @@ pub(crate) fn state_refusal(
         Sort::ListGiven(w) => unless(
             is_someone(r),
             8,
-            unless(locks.can_move_all(Way::Give, w, n, list), unreturnable(w), 0),
+            unless(
+                locks.can_move_all(Way::Give, w, n, list),
+                unreturnable(w),
+                0,
+            ),
         ),
         Sort::EveryTask => unless(now.0 < LAST_INSTANT, 15, 0),
         Sort::Declaration => 0,

@@ -2,7 +2,8 @@
 use borrow.Author.Needs.{needs}
 use mathlib.Core.Path.{sym, _∙_}
 use borrow.Author.Tests.{not-true, not-false}
-use Rattle.calls.specs.Changes.{asks}
+use Rattle.machine.specs.Granting.{couldBeGranted}
+use Rattle.machine.specs.Calls.{asks}
 use Rattle.calls.proofs.changes.asked.Statement.{statement}
 use Rattle.calls.proofs.changes.asked.Tie as tie
 
@@ -21,8 +22,8 @@ by-locks-requires : tie.Need-by-locks-requires
 by-locks-requires c κs = search needs
 
 returns : tie.Need-returns
-unfolding asks
-returns c =
+unfolding asks couldBeGranted
+returns c n ts =
     let p = c .before .before in
     rw (c .by-locks .ensures, c .before .move-all .ensures, ← p .before .can-move-all .ensures, p .if1 .taken)
 
@@ -30,8 +31,8 @@ by-locks-requires-2 : tie.Need-by-locks-requires-2
 by-locks-requires-2 c κs = search needs
 
 returns-2 : tie.Need-returns-2
-unfolding asks
-returns-2 c =
+unfolding asks couldBeGranted
+returns-2 c n ts =
     let p = c .before .before in
     rw (c .by-locks2 .ensures, ← p .before .can-move-all .ensures, p .if1 .left, not-true (p .before .before .before .args .waits) (c .before .if2 .taken))
 
@@ -42,8 +43,8 @@ by-locks-requires-3 : tie.Need-by-locks-requires-3
 by-locks-requires-3 c κs = search needs
 
 returns-3 : tie.Need-returns-3
-unfolding asks
-returns-3 c =
+unfolding asks couldBeGranted
+returns-3 c n ts =
     let p = c .before .before .before in
     rw (c .by-locks3 .ensures, c .before .waiting-for .ensures, ← p .before .can-move-all .ensures, p .if1 .left, not-false (p .before .before .before .args .waits) (c .before .before .if2 .left))
 

@@ -1,6 +1,6 @@
 -- What is enabled doesn't matter to the waits, nor to what ends a call but as its work.
 use borrow.Author.Needs.{needs}
-use Rattle.machine.specs.Work.{onlyLocks}
+use Rattle.machine.specs.Work.{onlyEnabled}
 use Rattle.machine.specs.Step.{finish}
 use Rattle.survey.specs.Looks.{waitsOk}
 use Rattle.calls.proofs.AskLaws.{interrupt-fits}
@@ -15,7 +15,7 @@ unfolding waitsOk
 done-requires c κs = search needs
 
 returns : tie.Need-returns
-unfolding finish onlyLocks
+unfolding finish onlyEnabled
 returns c = c .done .ensures
 
 pub enabled-as-spec : {M : Type 1} → statement M

@@ -22,7 +22,7 @@ use Rattle.machine.specs.State.{mostTasks, taskAt, withState}
 use Rattle.machine.specs.Running.{runningOf}
 use Rattle.machine.specs.Work.{everyTurn}
 use Rattle.machine.specs.Test.{valid}
-use Rattle.machine.specs.Refusals.{stateRefusalOf}
+use Rattle.machine.specs.Refusals.{stateRefusal}
 use Rattle.machine.specs.Calls.{tick}
 use Rattle.machine.specs.Step.{finish, refuse, orRefuse}
 use Rattle.machine.specs.declared.State.{State}
@@ -154,7 +154,7 @@ all c =
 
 -- Such a tick is not refused.
 accepted : (p : P) (d : Call) → let k = state p in
-    finish k (everyTurn k (moment p) (tickTurn (moment p))) ≡ orRefuse k (stateRefusalOf TI k d) (finish k (tick k))
+    finish k (everyTurn k (moment p) (tickTurn (moment p))) ≡ orRefuse k (stateRefusal TI k d) (finish k (tick k))
 unfolding tick
 accepted p d =
     let k = state p in

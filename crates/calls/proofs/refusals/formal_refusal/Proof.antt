@@ -2,35 +2,40 @@
 use borrow.Author.Needs.{needs}
 use borrow.Author.Tests.{not-true, not-false}
 use mathlib.Core.Path.{sym, _∙_}
+use Rattle.machine.specs.Sorts.{declares}
 use Rattle.machine.specs.Refusals.{formalRefusal}
 use Rattle.record.proofs.ReaderLaws.{before-some}
 use Rattle.calls.proofs.RefusalLaws.{shaped-short}
 use Rattle.calls.proofs.refusals.formal_refusal.Statement.{statement}
 use Rattle.calls.proofs.refusals.formal_refusal.Tie as tie
 
-is-declaration-requires : tie.Need-is-declaration-requires
-is-declaration-requires c κs = search needs
+sort-of-requires : tie.Need-sort-of-requires
+sort-of-requires c κs = search needs
+
+is-declaring-requires : tie.Need-is-declaring-requires
+is-declaring-requires c κs = search needs
 
 returns : tie.Need-returns
-unfolding formalRefusal
-returns c = rw (← c .before .is-declaration .ensures, c .if1 .taken)
+unfolding formalRefusal declares
+returns c = rw (← c .before .before .sort-of .ensures, ← c .before .is-declaring .ensures, c .if1 .taken)
 
 returns-2 : tie.Need-returns-2
-unfolding formalRefusal
-returns-2 c = rw (← c .before .before .is-declaration .ensures, c .before .if1 .left, ← c .before .before .before .pre) (before-some _ _ (c .if2 .taken))
+unfolding formalRefusal declares
+returns-2 c = rw (← c .before .before .before .sort-of .ensures, ← c .before .before .is-declaring .ensures, c .before .if1 .left, ← c .before .before .before .before .pre) (before-some _ _ (c .if2 .taken))
 
 is-declared-requires : tie.Need-is-declared-requires
-is-declared-requires c κs = shaped-short _ (sym (c .before .before .before .pre) ∙ c .if2 .left)
+is-declared-requires c κs = shaped-short _ (sym (c .before .before .before .before .pre) ∙ c .if2 .left)
 
 returns-3 : tie.Need-returns-3
-unfolding formalRefusal
+unfolding formalRefusal declares
 returns-3 c =
     let d = c .before in
     let s = d .before .before .before in
     rw (
-      ← s .is-declaration .ensures,
+      ← s .before .sort-of .ensures,
+      ← s .is-declaring .ensures,
       d .before .before .if1 .left,
-      ← s .before .pre,
+      ← s .before .before .pre,
       d .before .if2 .left,
       ← d .is-declared .ensures,
       not-true (d .is-declared .result) (c .if3 .taken),
@@ -40,15 +45,16 @@ times-of-requires : tie.Need-times-of-requires
 times-of-requires c κs = search needs
 
 returns-4 : tie.Need-returns-4
-unfolding formalRefusal
+unfolding formalRefusal declares
 returns-4 c =
     let t = c .before in
     let d = t .before .before in
     let s = d .before .before .before in
     rw (
-      ← s .is-declaration .ensures,
+      ← s .before .sort-of .ensures,
+      ← s .is-declaring .ensures,
       d .before .before .if1 .left,
-      ← s .before .pre,
+      ← s .before .before .pre,
       d .before .if2 .left,
       ← d .is-declared .ensures,
       not-false (d .is-declared .result) (t .before .if3 .left),
@@ -60,16 +66,17 @@ has-room-requires : tie.Need-has-room-requires
 has-room-requires c κs = search needs
 
 returns-5 : tie.Need-returns-5
-unfolding formalRefusal
+unfolding formalRefusal declares
 returns-5 c =
     let r = c .before in
     let t = r .before .before in
     let d = t .before .before in
     let s = d .before .before .before in
     rw (
-      ← s .is-declaration .ensures,
+      ← s .before .sort-of .ensures,
+      ← s .is-declaring .ensures,
       d .before .before .if1 .left,
-      ← s .before .pre,
+      ← s .before .before .pre,
       d .before .if2 .left,
       ← d .is-declared .ensures,
       not-false (d .is-declared .result) (t .before .if3 .left),
@@ -80,16 +87,17 @@ returns-5 c =
     )
 
 returns-6 : tie.Need-returns-6
-unfolding formalRefusal
+unfolding formalRefusal declares
 returns-6 c =
     let r = c .before in
     let t = r .before .before in
     let d = t .before .before in
     let s = d .before .before .before in
     rw (
-      ← s .is-declaration .ensures,
+      ← s .before .sort-of .ensures,
+      ← s .is-declaring .ensures,
       d .before .before .if1 .left,
-      ← s .before .pre,
+      ← s .before .before .pre,
       d .before .if2 .left,
       ← d .is-declared .ensures,
       not-false (d .is-declared .result) (t .before .if3 .left),
@@ -103,7 +111,8 @@ pub formal-refusal-spec : {M : Type 1} → statement M
 formal-refusal-spec =
     tie.close
     (tie.spec
-    is-declaration-requires
+    sort-of-requires
+    is-declaring-requires
     returns
     returns-2
     is-declared-requires

@@ -6,7 +6,7 @@ use lib.ListN.{drop}
 use Rattle.layout.specs.declared.Mark.{Mark}
 use Rattle.layout.specs.Marks.{marks}
 use Rattle.machine.specs.Refusals.{roomFor}
-use Rattle.calls.proofs.MarkLaws.{alike}
+use Rattle.layout.proofs.MarksLaws.{alike}
 use Rattle.calls.proofs.refusals.has_room.Statement.{statement}
 use Rattle.calls.proofs.refusals.has_room.Tie as tie
 
