@@ -68,7 +68,7 @@ unfoldable pub presets : List Entry → List ℕ
 presets [] = []
 presets (e ∷ es) = cond (accepted (e .answer)) (presetIn (opened (e .bytes) .answer)) [] ++ presets es
 
--- As many semaphores are declared, and the value of each is its own.
+-- There are as many semaphores as presets, and each has its own.
 pub record Preset (vs : List ℕ) (k : State) : Type 0 where
   pub count : k .counts .semaphores ≡ length vs
   pub value : (s : ℕ) → s < k .counts .semaphores → level Request (k .locks) s ≡ getD vs s 0

@@ -6,4 +6,4 @@ use Rattle.calendar.specs.Marked.{following, dues, MarkedTable}
 
 pub marked-table : MarkedTable
 unfolding timeOfDay until firstDue lastAllowed allowed nextDue following dues
-marked-table = record { m2 = refl; m3 = refl; m4 = refl; m4End = refl }
+marked-table = record { m2 = refl; m3 = refl; m4 = refl; m4End = refl; m4Later = refl }

@@ -34,3 +34,5 @@ pub record MarkedTable : Type 0 where
   pub m4 : dues (12 * hour) (instant hour) (At (13 * hour)) 0 Open ≡ hour ∷ []
   -- M4: UNTIL the time of the first gives one due
   pub m4End : dues (12 * hour) (instant 0) (At (22 * hour)) (2 * hour) (Until (22 * hour)) ≡ 10 * hour ∷ []
+  -- M4: AT the present time, UNTIL two hours later
+  pub m4Later : dues (12 * hour) (instant hour) (At (13 * hour)) hour (Until (15 * hour)) ≡ hour ∷ 2 * hour ∷ 3 * hour ∷ []

@@ -7,13 +7,15 @@ use lib.Seq.{getD-drop}
 use Rattle.calendar.specs.Limits.{day}
 use Rattle.layout.specs.Fields.{recordLength, Octets}
 use Rattle.machine.specs.State.{nothing}
+use Rattle.machine.specs.Log.{final}
+use Rattle.machine.proofs.Rows.{final-append}
 use Rattle.balance.specs.Fresh.{AllOctets}
 use Rattle.balance.proofs.Parted.{all-parted}
 use Rattle.script.specs.Records.{cut, records}
 use Rattle.script.specs.Script.{Runs}
 use Rattle.script.proofs.Going.{octets-part}
 use Rattle.script.proofs.PromiseProofs.{scripts-carried}
-use Rattle.delivery.specs.Scripted.{ScriptBalances}
+use Rattle.delivery.specs.Scripted.{ScriptBalances, RestBalances}
 use Rattle.delivery.proofs.Delivered.{isDay}
 
 octets-cut : (n : ℕ) (s : List ℕ) → Octets s → AllOctets (cut n s)
@@ -28,18 +30,28 @@ unfolding AllOctets
 octets-first [] b o = tt
 octets-first (r ∷ a) b o = (o .0, octets-first a b (o .1))
 
+octets-both : (a b : List (List ℕ)) → AllOctets a → AllOctets b → AllOctets (a ++ b)
+unfolding AllOctets
+octets-both [] b o p = p
+octets-both (r ∷ a) b o p = (o .0, octets-both a b (o .1) p)
+
 all-octets : (s : List ℕ) → Octets s → AllOctets (records s)
 unfolding records
 all-octets s = octets-cut (length s) s
 
-pub script-balances : ScriptBalances
-script-balances a m script before after r o u =
-    let t : Runs day nothing script before after r = rw (← u .refers .0, ← u .refers .1, ← u .refers .2, ← m) (u .learnt) in
-    let c = scripts-carried day nothing (records script) (length before) in
+pub rest-balances : RestBalances
+rest-balances a past p m script before after r o u =
+    let k = final day nothing past in
+    let t : Runs day k script before after r = rw (← u .refers .0, ← u .refers .1, ← u .refers .2, ← m) (u .learnt) in
+    let c = scripts-carried day k (records script) (length before) in
     record {
       done = c .done;
       split = c .split ∙ ap (λ (l : List (List ℕ)). c .done ++ l) (sym (t .rest));
       text = rw (c .text) at (t .text);
-      state = t .state ∙ c .state;
-      parted = all-parted day isDay (c .done) (octets-first (c .done) _ (rw (c .split) at (all-octets script o)));
+      state = t .state ∙ c .state ∙ sym (final-append day nothing past (c .done));
+      parted = all-parted day isDay (past ++ c .done) (octets-both past (c .done) p (octets-first (c .done) _ (rw (c .split) at (all-octets script o))));
     }
+
+pub script-balances : ScriptBalances
+unfolding final AllOctets
+script-balances a m = rest-balances a [] tt m

@@ -56,11 +56,11 @@ threeLines p d =
     ++ line 0 (Runs 0) 1 0 0 0 0 ∷ row (p - 1) (quiet (Runs 0))
     ++ line 0 (Runs 0) 1 0 0 1 0 ∷ row d (quiet (Runs 0))
 
--- What that answers to the declarations, the call and the ticks, with the first due after n of them.
+-- What the evening answers to the declarations, the call and the ticks, with the first due after n of them.
 abbrev pub eveningLines : ℕ → ℕ → List Answer
 eveningLines n d = quiet Idle ∷ quiet Idle ∷ quiet Idle ∷ row (n - 1) (quiet Idle) ++ threeLines (hours 2) d
 
--- M4's, at 13:00: an hour of ticks since 12:00.
+-- M4's: it is 13:00, after an hour of ticks since 12:00.
 abbrev pub anHour : List (List ℕ)
 anHour = declareTask 5 ∷ declareClock (hours 12) ∷ row (hours 1) oneTick
 

@@ -155,42 +155,27 @@ fn beyond_limits() {
     show(Kernel { state: k }.tick());
 }
 
-// Schedules that no call leaves and that pass the test: the next due after the last, and an end without a period. The
-// priority of a terminated task isn't the declared one.
-fn odd_schedules() {
+// A schedule that no call leaves and that passes the test: its next due after its last, an end and no period. The
+// current priority of its task, which is terminated, isn't the declared one.
+fn odd_schedule() {
     let mut kernel = Kernel::fresh();
     kernel = show(kernel.declare_task(5));
     kernel = show(kernel.declare_task(6));
     kernel = show(kernel.activate(1, 0, start_of(0)));
     kernel = show(kernel.activate(0, 0, after_one()));
     let mut k = kernel.state;
-    let mut t = k.tasks[0];
-    let mut s = t.schedule;
+    let t = k.tasks[0];
+    let s = t.schedule;
     let last = Moment::At(Instant(0));
-    let late = Schedule {
-        last,
-        period: 1,
-        ..s
-    };
+    let end = End::Until(0);
+    let schedule = Schedule { last, end, ..s };
     k.tasks[0] = Task {
         current: 7,
-        schedule: late,
+        schedule,
         ..t
     };
     kernel = show(Kernel { state: k }.tick());
-    kernel = show(kernel.tick());
-    kernel = show(kernel.terminate(0));
-    kernel = show(kernel.activate(0, 0, after_one()));
-    k = kernel.state;
-    t = k.tasks[0];
-    s = t.schedule;
-    let end = End::Until(0);
-    let ended = Schedule { end, ..s };
-    k.tasks[0] = Task {
-        schedule: ended,
-        ..t
-    };
-    show(Kernel { state: k }.tick());
+    show(kernel.tick());
 }
 
 // The last of an armed schedule isn't looked at, the end of one that waits for its next due is. Then the kernel fails
@@ -231,6 +216,6 @@ fn main() {
     starts();
     last_instant();
     beyond_limits();
-    odd_schedules();
+    odd_schedule();
     stored_ends();
 }

@@ -1,5 +1,5 @@
 -- M1 of document 01, "The script program": the bytes of its nine records, and the text of its six lines.
--- Proved in proofs/MarkedProofs.antt.
+-- Proved in proofs/WholeProofs.antt.
 use mathlib.Core.List.{List, [], _∷_, _++_}
 use Prim.Native.Nat.{ℕ, _*_, _≤_}
 use Prim.Native.Char.{code}
