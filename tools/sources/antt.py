@@ -26,7 +26,7 @@ class Declaration:
         first = self.text[self.text.index(self.name) + len(self.name):]
         if self.kind in ("record", "data"):
             return " ".join(first.split(" where", 1)[0].split())
-        clause = re.search(rf"\n *(?:unfolding |{re.escape(re.split('_', self.name)[0])}\b)", first)
+        clause = re.search(rf"\n *(?:unfolding|{re.escape(self.name.split('_')[0])})\s", first)
         return " ".join(first[:clause.start() if clause else None].split(" :", 1)[1].split())
 
     def members(self):

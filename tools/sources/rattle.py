@@ -24,7 +24,8 @@ class Item:
 
 def items(text):
     """Every function, type and constant of a file, also those within an impl; comments are left out."""
-    found, owner, current, ending = [], "", None, None
+    found, owner = [], ""
+    current, start, ending = None, 0, None         # the item at hand, its indent, and where its body ends
     for number, raw in enumerate(text.split("\n"), 1):
         line = re.sub(r"(^|\s)//.*$", "", raw).rstrip()
         indent = len(line) - len(line.lstrip())
@@ -41,7 +42,7 @@ def items(text):
                     current.members.append(match.group(1))
         elif current:                              # within a function's head
             current.text += "\n" + line
-            if len(line) - len(line.lstrip()) == start and line.endswith("{"):
+            if indent == start and line.endswith("{"):
                 ending = start
         elif match := ITEM.match(words):
             name = f"{owner}::{match.group(2)}" if owner and indent else match.group(2)
@@ -54,5 +55,5 @@ def items(text):
         elif match := IMPL.match(words):
             owner = match.group(1)
         elif indent == 0:
-            owner = owner if words == "}" else ""
+            owner = ""
     return found
