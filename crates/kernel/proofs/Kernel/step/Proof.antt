@@ -1,4 +1,4 @@
--- The calls's step, handed on.
+-- The step of the calls, handed on.
 use borrow.Author.Needs.{needs}
 use Rattle.kernel.specs.Reply.{reply}
 use Rattle.kernel.proofs.Replies.{step-replies}

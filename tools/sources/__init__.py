@@ -1,0 +1,1 @@
+"""The crates' source files taken apart, for the tools that compare or look up names."""
