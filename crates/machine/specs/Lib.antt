@@ -3,6 +3,7 @@ pub mod Sums
 pub mod Sets
 pub mod State
 pub mod Running
+pub mod NextEvent
 pub mod Granting
 pub mod Work
 pub mod Serving

@@ -1,6 +1,7 @@
 -- The rules of one task, in the order to read them.
 pub mod State
 pub mod Schedules
+pub mod Coming
 pub mod Turns
 -- What they keep.
 pub mod Promises

@@ -1,7 +1,8 @@
 -- One task's turn: what a due, an end, a tick or a call does to it, and which sets have it (document 01, "The step").
-use mathlib.Core.Bool.{Bool, true, false, cond, _&&_, _||_}
+use mathlib.Core.Bool.{Bool, true, false, cond, _&&_}
 use Prim.Native.Nat.{ℕ, zero, suc}
 use lib.Dec.{eqb}
+use Rattle.calendar.specs.Moments.{isAt}
 use Rattle.calendar.specs.declared.Instant.{Instant}
 use Rattle.task.specs.declared.Hold.{Hold}
 use Rattle.task.specs.declared.Hold.the-variants.{Unheld, Suspended, Delayed}
@@ -12,6 +13,7 @@ use Rattle.task.specs.declared.Task.{Task}
 use Rattle.task.specs.declared.Turn.{Turn}
 use Rattle.task.specs.State.{noSchedule, isKept, withCurrent, withAlive, withKept, withHold, withSchedule, waitOver}
 use Rattle.task.specs.Schedules.{onInterrupt, falls, advance, setOff}
+use Rattle.task.specs.Coming.{delayEnd}
 
 -- A turn that marks nothing.
 abbrev pub unmarked : Task → Turn
@@ -79,9 +81,7 @@ unfoldable pub resumeTurn : Instant → Task → Turn
 resumeTurn n t = unmarked (withHold (Delayed n) t)
 
 abbrev pub delayEnds : Instant → Hold → Bool
-delayEnds n Unheld = false
-delayEnds n Suspended = false
-delayEnds n (Delayed m) = eqb (m .0) (n .0)
+delayEnds n h = isAt n (delayEnd h)
 
 -- A task delayed until n is unheld.
 unfoldable pub wake : Instant → Task → Task
@@ -98,10 +98,6 @@ fallTurn n t =
 -- A tick to n: the delay first, then the schedule.
 abbrev pub tickTurn : Instant → Task → Turn
 tickTurn n t = fallTurn n (wake n t)
-
--- A tick to n changes the task.
-abbrev pub stirs : Instant → Task → Bool
-stirs n t = delayEnds n (t .hold) || falls n (t .schedule .alarm)
 
 -- A schedule, from now on.
 abbrev pub scheduleTurn : Instant → Schedule → Task → Turn
