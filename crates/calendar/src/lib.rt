@@ -3,6 +3,7 @@ ghost use mathlib.Core.Path.{_≡_};
 ghost use Prim.Native.Nat.{_≤_};
 ghost use Rattle.calendar.specs.Limits.{day, mostInstant, isTimeOfDay, isDuration, isPeriod};
 ghost use Rattle.calendar.specs.Times.{plus, timeOfDay, until};
+ghost use Rattle.calendar.specs.Moments.{upTo};
 ghost use Rattle.calendar.specs.Dues.{firstDue, lastAllowed, allowed, nextDue};
 
 // Instants, durations and times of day are counted in ticks of one millisecond.
@@ -87,6 +88,23 @@ impl Instant {
         let left = day - past;
         let wait = ((t as u64 + left) % day) as u32;
         Duration(wait)
+    }
+}
+
+impl Moment {
+    // The instant as a number, but at most l.
+    pub fn up_to(self, l: u64) -> u64
+        ensures { λ r. ⌜ r ≡ upTo l self ⌝ }
+    {
+        match self {
+            Moment::Never => l,
+            Moment::At(n) => {
+                if n.0 < l {
+                    return n.0;
+                }
+                l
+            }
+        }
     }
 }
 

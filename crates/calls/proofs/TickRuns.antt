@@ -16,13 +16,15 @@ use Rattle.lock.proofs.Bools.{byBool, byEq, contra, both}
 use Rattle.task.specs.State.{noTask, runnable, unheld, withSchedule}
 use Rattle.task.specs.Alarms.{falls}
 use Rattle.task.specs.Schedules.{advance}
-use Rattle.task.specs.Turns.{dueIf, delayEnds, wake, fallTurn, tickTurn, stirs}
+use Rattle.task.specs.Coming.{comes}
+use Rattle.task.specs.Turns.{dueIf, delayEnds, wake, fallTurn, tickTurn}
 use Rattle.task.specs.declared.Hold.{Hold}
 use Rattle.task.specs.declared.Hold.the-variants.{Unheld, Suspended, Delayed}
 use Rattle.task.specs.declared.Kept.{Kept}
 use Rattle.task.specs.declared.Kept.the-variants.{Empty, Back}
 use Rattle.task.specs.declared.Task.{Task}
 use Rattle.task.specs.declared.Turn.{Turn}
+use Rattle.task.proofs.Laws.{comes-parts}
 use Rattle.machine.specs.State.{mostTasks, taskAt}
 use Rattle.machine.specs.Running.{urgency, runningOf}
 use Rattle.machine.specs.declared.Running.the-variants.{Idle, Runs}
@@ -179,10 +181,10 @@ runs-below ts c j e = mostUrgent-at c _ _ j e .0
 -- ---- what a tick may stir
 
 -- What it may not stir, it doesn't.
-pub unstirred : (n : Instant) (t : Task) → mayStir n (t .hold) (t .schedule .alarm .next) ≡ false → stirs n t ≡ false
-unstirred n t = go (t .hold)
+pub unstirred : (n : Instant) (t : Task) → mayStir n (t .hold) (t .schedule .alarm .next) ≡ false → comes n t ≡ false
+unstirred n t e = comes-parts n t ∙ go (t .hold) e
   where
-    go : (h : Hold) → mayStir n h (t .schedule .alarm .next) ≡ false → (delayEnds n h || falls n (t .schedule .alarm)) ≡ false
+    go : (h : Hold) → mayStir n h (t .schedule .alarm .next) ≡ false → (falls n (t .schedule .alarm) || delayEnds n h) ≡ false
     go Unheld e = rw (e, and-false)
     go Suspended e = rw (e, and-false)
     go (Delayed m) e = contra refl e

@@ -28,6 +28,7 @@ pub mod Looks
 pub mod Pairs
 pub mod WorkPairs
 pub mod Beyond
+pub mod NextEvent
 pub mod Quiet
 -- Proofs of the marked cases.
 pub mod Computing

@@ -17,8 +17,7 @@ use Rattle.record.specs.Refusals.{uses, cleanNames, cleanStart, ranged, formed,
 use Rattle.record.specs.Reading.{opened}
 use Rattle.layout.specs.declared.Call.{Call}
 use Rattle.layout.specs.declared.Mark.the-variants.{TI}
-use Rattle.task.specs.Alarms.{falls}
-use Rattle.task.specs.Turns.{unmarked, delayEnds, wake, fallTurn, tickTurn}
+use Rattle.task.specs.Turns.{unmarked, tickTurn}
 use Rattle.task.specs.declared.Task.{Task}
 use Rattle.task.specs.declared.Turn.{Turn}
 use Rattle.machine.specs.declared.Counts.{Counts}
@@ -37,9 +36,10 @@ use Rattle.machine.specs.Calls.{tick, workBy}
 use Rattle.machine.specs.Step.{plainAnswer, finish, orRefuse, carryOut, settle, step}
 use Rattle.machine.specs.Log.{final, log}
 use Rattle.machine.specs.Scripts.{row, oneTick}
-use Rattle.machine.specs.Quiet.{comes, Quiet, later, TicksAreQuiet}
-use Rattle.lock.proofs.Bools.{neither}
+use Rattle.machine.specs.Quiet.{Quiet, later, TicksAreQuiet, QuietUpToNext}
+use Rattle.task.proofs.Laws.{still}
 use Rattle.machine.proofs.Below.{mostUrgent-none}
+use Rattle.machine.proofs.NextEvent.{next-is-next, next-later}
 use Rattle.machine.proofs.Passed.{parts, tested}
 use Rattle.machine.proofs.Facts.{nobody-untest}
 
@@ -65,12 +65,6 @@ module _ (f : Task → Turn) where
   no-marks g z (suc n) (t ∷ ts) h e =
       let a : g (f t) ≡ false = ap g (e 0 (omega arith)) ∙ z t in
       rw (a, no-marks g z n ts (omega arith) (λ i l. e (suc i) (omega arith)))
-
-quiet-turn : (n : Instant) (t : Task) → comes n t ≡ false → tickTurn n t ≡ unmarked t
-unfolding fallTurn wake
-quiet-turn n t e =
-    let p = neither (falls n (t .schedule .alarm)) (delayEnds n (t .hold)) e in
-    rw (p .1, p .0)
 
 module _ (day : ℕ) (k : State) where
   pub still-valid : (n : Instant) → k .now .0 ≤ lastInstant → n .0 ≤ lastInstant → valid day k ≡ true → valid day (begunAt n k) ≡ true
@@ -107,7 +101,7 @@ module _ (day : ℕ) (k : State) (room : length (k .tasks) ≡ mostTasks) (v : v
       let f = tickTurn (plus (k .now) (duration 1)) in
       let r : n ≤ length (k .tasks) = omega (arith, tested day k v .fits .tasks) in
       let e : (i : ℕ) → i < n → f (taskAt (k .tasks) i) ≡ unmarked (taskAt (k .tasks) i) =
-      λ i l. quiet-turn (plus (k .now) (duration 1)) (taskAt (k .tasks) i) (q i l (k .now .0 + 1) (omega arith) (omega arith)) in
+      λ i l. still (plus (k .now) (duration 1)) (taskAt (k .tasks) i) (q i l (k .now .0 + 1) (omega arith) (omega arith)) in
       rw (
         kept-tasks f n (k .tasks) r e,
         no-marks f (λ u. u .due) (λ t. refl) n (k .tasks) r e,
@@ -159,3 +153,7 @@ ticks-are-quiet day (suc d) k room v q l =
       answers = rw (s, r .answers);
       state = ap (λ (x : Stepped). final day (x .state) (row d oneTick)) s ∙ r .state ∙ later-next d k;
     }
+
+pub quiet-up-to-next : QuietUpToNext
+quiet-up-to-next day d k room v b l =
+    (ticks-are-quiet day d k room v (next-is-next k .quiet d b) l, next-later k d b)

@@ -10,6 +10,7 @@ use Rattle.calendar.specs.Limits.{day, lastInstant}
 use Rattle.calendar.specs.Times.{instant}
 use Rattle.lock.specs.Locks.{emptyBolt}
 use Rattle.lock.specs.declared.Wait.the-variants.{Nothing}
+use Rattle.task.specs.Coming.{comes}
 use Rattle.task.specs.declared.Hold.the-variants.{Unheld}
 use Rattle.task.specs.declared.Kept.{Kept}
 use Rattle.task.specs.declared.Schedule.{Schedule}
@@ -23,7 +24,7 @@ use Rattle.machine.specs.Test.{valid}
 use Rattle.machine.specs.Step.{step}
 use Rattle.machine.specs.Log.{log}
 use Rattle.machine.specs.Scripts.{row, oneTick}
-use Rattle.machine.specs.Quiet.{comes, Quiet, later, quietTick}
+use Rattle.machine.specs.Quiet.{Quiet, later, quietTick}
 use Rattle.machine.specs.Marked.{answers, after, quiet}
 use Rattle.machine.proofs.Quiet.{ticks-are-quiet}
 use Rattle.machine.proofs.Rows.{row-split, map-row, log-append}

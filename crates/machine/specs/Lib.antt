@@ -4,6 +4,7 @@ pub mod Sets
 pub mod State
 pub mod Sorts
 pub mod Running
+pub mod NextEvent
 pub mod Granting
 pub mod Work
 pub mod Serving

@@ -2,7 +2,7 @@
 use mathlib.Core.Path.{_≡_, refl, sym, _∙_}
 use mathlib.Core.Bool.{Bool, true, false, _&&_}
 use mathlib.Core.List.{List, [], _++_, append-nil}
-use Prim.Native.Nat.{ℕ, _+_, _-_, _≤_, _<_, min}
+use Prim.Native.Nat.{ℕ, suc, _+_, _-_, _≤_, _<_, min}
 use native.Mathlib.Omega.{arith}
 use lib.Dec.{leb, ltb}
 use lib.ListN.{length, take, drop, length-take, List·getD-eq-default}
@@ -10,8 +10,12 @@ use lib.Seq.{getD-take, getD-drop}
 use borrow.Author.Tests.{leb-true, leb-false, ltb-true, ltb-false}
 use Rattle.calendar.specs.Limits.{day, lastInstant}
 use Rattle.calendar.specs.Times.{duration, plus}
+use Rattle.calendar.specs.Moments.{upTo}
+use Rattle.calendar.proofs.Moments.{up-to-before}
 use Rattle.layout.specs.Fields.{recordLength, Octets}
 use Rattle.machine.specs.Invariants.{IsDay, Tables}
+use Rattle.machine.specs.NextEvent.{nextEvent}
+use Rattle.machine.specs.Quiet.{Quiet}
 use Rattle.machine.specs.Running.{runner}
 use Rattle.machine.specs.State.{mostTasks, begunAt}
 use Rattle.machine.specs.Step.{plainAnswer, step}
@@ -20,6 +24,7 @@ use Rattle.machine.specs.declared.State.{State}
 use Rattle.machine.specs.declared.Running.{Running}
 use Rattle.machine.specs.declared.Running.the-variants.{Idle}
 use Rattle.machine.specs.declared.Stepped.{Stepped}
+use Rattle.machine.proofs.NextEvent.{next-is-next}
 use Rattle.machine.proofs.Quiet.{quiet-step, still-valid}
 use Rattle.machine.proofs.Invariants.{step-passes}
 use Rattle.machine.proofs.Facts.{StateOk, ok-of-passes}
@@ -29,7 +34,7 @@ use Rattle.lines.specs.Buffers.{placed, Wrote}
 use Rattle.lines.specs.Lines.{line, longestLine}
 use Rattle.lines.proofs.PlacedLaws.{then}
 use Rattle.lock.proofs.Bools.{byBool, both}
-use Rattle.calls.specs.Stirring.{isTick, QuietBefore}
+use Rattle.calls.specs.Stirring.{isTick}
 use Rattle.script.specs.Records.{records}
 use Rattle.script.specs.Printed.{shown, printed}
 use Rattle.script.specs.Script.{afterText, carried, some, Tells}
@@ -53,6 +58,15 @@ octets-part s at to o i =
     rw (List·getD-eq-default (take (to - at) (drop at s)) 0 {n = i} (omega (arith, length-take (to - at) (drop at s), ltb-false i (to - at) e)))
     (omega arith))
 
+-- Ticks to instants before q are quiet and not refused.
+abbrev pub Still : ℕ → State → Type 0
+Still q k = (d : ℕ) → k .now .0 + d < q → (k .now .0 + d ≤ lastInstant) × Quiet d k
+
+pub still-next : (k : State) {q : ℕ} → q ≡ upTo (lastInstant + 1) (nextEvent k) → Still q k
+still-next k e d l =
+    let p = up-to-before (lastInstant + 1) (nextEvent k) (k .now .0 + d) (rw e at l) in
+    (omega arith, next-is-next k .quiet d (p .1))
+
 -- The text so far, and what is carried on from here gives the whole.
 pub record Going (script before : List ℕ) (start : State) (ok : Bool) (buffer : List ℕ) (k : State) (r : Running) (quiet at fill : ℕ) : Type 0 where
   pub text : List ℕ
@@ -64,7 +78,7 @@ pub record Going (script before : List ℕ) (start : State) (ok : Bool) (buffer 
   pub tables : Tables k
   pub tested : ok ≡ valid day k
   pub runs : ok ≡ true → r ≡ runner k
-  pub still : QuietBefore quiet k
+  pub still : Still quiet k
   pub rest : carried day start (records script) (length before) ≡ afterText text (carried day k (records (drop at script)) (length before - fill))
 
 -- The loop's test: there is a next record, and room for a longest line.
@@ -122,7 +136,7 @@ module _ {script before : List ℕ} {start : State} {ok : Bool} {buffer : List �
     -- One record more, with the machine's step z on it and z's line.
     turned : {r′ : Running} {quiet′ : ℕ} (z : Stepped) → z ≡ step day k (part script at to)
         → Wrote buffer fill (shown (says z) (z .answer)) buffer′ fill′ → fill′ ≤ fill + longestLine → length buffer′ ≡ length buffer
-        → Tables (z .state) → ok ≡ valid day (z .state) → (ok ≡ true → r′ ≡ runner (z .state)) → QuietBefore quiet′ (z .state)
+        → Tables (z .state) → ok ≡ valid day (z .state) → (ok ≡ true → r′ ≡ runner (z .state)) → Still quiet′ (z .state)
         → Going script before start ok buffer′ (z .state) r′ quiet′ to fill′
     turned z m w n b s v u q =
         let t : List ℕ = shown (says z) (z .answer) in
@@ -153,19 +167,21 @@ module _ {script before : List ℕ} {start : State} {ok : Bool} {buffer : List �
         (g .runs) (g .still)
 
     module _ (o : ok ≡ true) where
-      -- Before the next instant that may stir a task, a tick only moves the present.
-      pub moved : (q : ℕ) → QuietBefore q k → isTick (part script at to) ≡ true → k .now .0 < lastInstant → k .now .0 + 1 < q
+      -- Before the next event a tick only moves the present.
+      pub moved : (q : ℕ) → Still q k → isTick (part script at to) ≡ true → k .now .0 + 1 < q
           → Wrote buffer fill (line (plainAnswer 0 r)) buffer′ fill′ → fill′ ≤ fill + longestLine → length buffer′ ≡ length buffer
           → Going script before start ok buffer′ (begunAt (plus (k .now) (duration 1)) k) r q to fill′
-      moved q s t i j w n b =
+      moved q s t j w n b =
+          let i = s 1 j .0 in
           let z : Stepped = record { state = begunAt (plus (k .now) (duration 1)) k; answer = plainAnswer 0 r } in
           let m : z ≡ step day k (part script at to) =
           rw (tick-bytes (part script at to) t, g .runs o)
-          (sym (quiet-step day k (g .tables .tasks) (good o) (λ c l x a b. s c l x a (omega arith)) i)) in
+          (sym (quiet-step day k (g .tables .tasks) (good o) (s 1 j .1) (omega arith))) in
           let v : valid day (z .state) ≡ true = still-valid day k (plus (k .now) (duration 1)) (omega arith) (omega arith) (good o) in
           turned z m w n b
           (record { tasks = g .tables .tasks; semaphores = g .tables .semaphores; bolts = g .tables .bolts; enabled = g .tables .enabled })
-          (o ∙ sym v) (g .runs) (λ c l x a b. s c l x (omega arith) b)
+          (o ∙ sym v) (g .runs)
+          (λ d l. let p = s (suc d) (omega arith) in (omega arith, λ c m x a b. p .1 c m x (omega arith) (omega arith)))
 
       -- Any other record.
       pub stepped : (z : Stepped) → z ≡ step day k (part script at to)
@@ -174,7 +190,7 @@ module _ {script before : List ℕ} {start : State} {ok : Bool} {buffer : List �
       stepped z m w n b =
           let p = step-passes day isDay k (record { tables = g .tables; tested = good o }) (part script at to) (octets-part script at to (g .octets)) in
           turned z m w n b (rw m (p .tables)) (o ∙ sym (rw m (p .tested))) (λ _. rw m (answers-runner day k (part script at to) (good o)))
-          (λ c l x a b. absurd (omega arith))
+          (λ d l. absurd (omega arith))
 
 -- Where the loop begins.
 pub started : (script before : List ℕ) (k : State) (ok : Bool) (r : Running) → Octets script → Tables k → ok ≡ valid day k → (valid day k ≡ true → r ≡ runner k)
@@ -192,6 +208,6 @@ started script before k ok r o t v u =
       tables = t;
       tested = v;
       runs = λ e. u (sym v ∙ e);
-      still = λ c l x a b. absurd (omega arith);
+      still = λ d l. absurd (omega arith);
       rest = rw d;
     }

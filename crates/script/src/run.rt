@@ -12,7 +12,6 @@ ghost use Rattle.script.specs.Script.{Runs};
 use calendar::Duration;
 use calendar::LAST_INSTANT;
 use calls::quiet::is_tick;
-use calls::quiet::quiet_before;
 use calls::step::step_on;
 use kernel::Kernel;
 use layout::RECORD_LENGTH;
@@ -20,6 +19,7 @@ use lines::line_at;
 use machine::Answer;
 use machine::Running;
 use survey::look::survey;
+use survey::next::next_event;
 
 pub const LONGEST_LINE: usize = 63;
 
@@ -71,7 +71,8 @@ fn line_if(show: bool, a: Answer, out: &mut [u8], at: usize) -> usize
     at
 }
 
-// The script s, with as many lines as there is room for in out. On a quiet tick only the instant moves.
+// The script s, with as many lines as there is room for in out. A tick to an instant before quiet only moves the
+// present; quiet is the next event, found at the first tick after another record, or 0 while it isn't known.
 pub fn run(kernel: Kernel, s: &[u8], out: &mut [u8]) -> Ran
     ensures { λ r. ⌜ Runs day (kernel .state) (now (s .entry)) (now (out .entry)) (now (out .exit)) r ⌝ }
 {
@@ -92,9 +93,9 @@ pub fn run(kernel: Kernel, s: &[u8], out: &mut [u8]) -> Ran
         let now = k.now;
         let tick = is_tick(rec);
         if tick & (quiet <= now.0 + 1) {
-            quiet = quiet_before(k);
+            quiet = next_event(k).up_to(LAST_INSTANT + 1);
         }
-        if tick & (now.0 < LAST_INSTANT) & (now.0 + 1 < quiet) {
+        if tick & (now.0 + 1 < quiet) {
             let next = now.plus(Duration(1));
             k.now = next;
             k.begun = true;

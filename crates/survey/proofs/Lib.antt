@@ -6,3 +6,4 @@ pub mod PlaceLaws
 pub mod TestLaws
 pub mod TaskFit
 pub mod Surveying
+pub mod NextLaws

@@ -11,9 +11,10 @@ use Rattle.calendar.specs.Times.{duration, plus}
 use Rattle.calendar.specs.declared.Instant.{Instant}
 use Rattle.lock.proofs.Bools.{byBool}
 use Rattle.task.specs.Alarms.{falls}
+use Rattle.task.specs.Coming.{comes}
 use Rattle.task.specs.Turns.{delayEnds}
+use Rattle.task.proofs.Laws.{comes-parts}
 use Rattle.machine.specs.State.{mostTasks, taskAt}
-use Rattle.machine.specs.Quiet.{comes}
 use Rattle.machine.specs.Running.{urgency, runningOf, runner}
 use Rattle.machine.specs.Test.{allBelow, valid}
 use Rattle.machine.specs.declared.State.{State}
@@ -51,7 +52,7 @@ module _ (day : ℕ) (k : State) (x : Instant) where
     looked-next less fits c r a =
         record {
           tasks = upto-passes (p .tasks) less fits;
-          comings = c ∙ rw (add-one, p .comings) (one (allBelow i _) _ _);
+          comings = c ∙ rw (add-one, p .comings, comes-parts x (taskAt (k .tasks) i)) (one (allBelow i _) _ _);
           nearest = a ∙ rw (r, p .nearest) (sym (least-next (canRun (k .tasks)) (k .tasks) i b (omega arith)));
         }
       where

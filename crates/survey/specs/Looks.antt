@@ -8,11 +8,11 @@ use Rattle.lock.specs.Locks.{waiting, grantable}
 use Rattle.lock.specs.declared.Locks.{Locks}
 use Rattle.lock.specs.declared.Wait.{Wait}
 use Rattle.task.specs.State.{unheld, wanted}
+use Rattle.task.specs.Coming.{comes}
 use Rattle.task.specs.declared.Hold.{Hold}
 use Rattle.task.specs.declared.Task.{Task}
 use Rattle.machine.specs.Sets.{put}
 use Rattle.machine.specs.State.{mostTasks, taskAt}
-use Rattle.machine.specs.Quiet.{comes}
 use Rattle.machine.specs.Running.{runner}
 use Rattle.machine.specs.Test.{allBelow, countsOk, holdOk, waitOk, valid}
 use Rattle.machine.specs.declared.Counts.{Counts}

@@ -1,6 +1,7 @@
 // One look at a kernel: the kernel test, the running task, and what the next tick would stir.
 pub mod check;
 pub mod look;
+pub mod next;
 pub mod scan;
 pub mod sets;
 

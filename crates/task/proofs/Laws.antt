@@ -1,18 +1,34 @@
 -- Laws of the definitions: turns that change nothing, and a priority given.
-use mathlib.Core.Path.{_≡_, refl}
-use mathlib.Core.Bool.{false}
+use mathlib.Core.Path.{_≡_, refl, sym, _∙_}
+use mathlib.Core.Bool.{false, cond, _&&_, _||_, or-comm, or-false}
 use Prim.Native.Nat.{ℕ, zero, suc}
+use lib.Dec.{eqb}
+use Rattle.calendar.specs.Moments.{isAt}
 use Rattle.calendar.specs.declared.Instant.{Instant}
+use Rattle.calendar.specs.declared.Moment.the-variants.{Never, At}
 use Rattle.lock.proofs.Bools.{neither}
+use Rattle.task.specs.declared.Plan.{Plan}
+use Rattle.task.specs.declared.Plan.the-variants.{None, Clock, Armed, Triggered}
 use Rattle.task.specs.declared.Task.{Task}
-use Rattle.task.specs.Alarms.{falls, listens}
-use Rattle.task.specs.Turns.{unmarked, orElse, delayEnds, wake, fallTurn, tickTurn, stirs, triggerTurn}
+use Rattle.task.specs.Alarms.{pending, falls, listens}
+use Rattle.task.specs.Coming.{comes}
+use Rattle.task.specs.Turns.{unmarked, orElse, delayEnds, wake, fallTurn, triggerTurn}
+use Rattle.task.specs.Promises.{QuietTurn}
 
--- A tick that doesn't stir a task leaves it as it is.
-pub still : (n : Instant) (t : Task) → stirs n t ≡ false → tickTurn n t ≡ unmarked t
+-- What comes to a task, by its parts.
+pub comes-parts : (n : Instant) (t : Task) → comes n t ≡ (falls n (t .schedule .alarm) || delayEnds n (t .hold))
+comes-parts n t = rw (falls-then (t .schedule .alarm .plan), or-false) (or-comm (delayEnds n (t .hold)) _)
+  where
+    falls-then : (p : Plan) → isAt n (cond (pending p) (At (t .schedule .alarm .next)) Never) ≡ (pending p && eqb (t .schedule .alarm .next .0) (n .0))
+    falls-then None = refl
+    falls-then Clock = refl
+    falls-then Armed = refl
+    falls-then Triggered = refl
+
+pub still : QuietTurn
 unfolding wake fallTurn
 still n t e =
-    let (asleep, quiet) = neither (delayEnds n (t .hold)) (falls n (t .schedule .alarm)) e in
+    let (quiet, asleep) = neither (falls n (t .schedule .alarm)) (delayEnds n (t .hold)) (sym (comes-parts n t) ∙ e) in
     rw (asleep, quiet)
 
 -- A trigger of an interrupt that a task doesn't listen to leaves it as it is.

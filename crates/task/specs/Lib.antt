@@ -2,6 +2,7 @@
 pub mod State
 pub mod Alarms
 pub mod Schedules
+pub mod Coming
 pub mod Turns
 -- What they keep.
 pub mod Promises

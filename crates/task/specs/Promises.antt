@@ -1,4 +1,4 @@
--- What one task's turn keeps. Proved in proofs/Fairness.antt and proofs/Triggers.antt.
+-- What one task's turn keeps. Proved in proofs/Fairness.antt, proofs/Laws.antt and proofs/Triggers.antt.
 use mathlib.Core.Path.{_≡_}
 use mathlib.Core.Bool.{Bool, true, false, not, _&&_, _||_}
 use Prim.Native.Nat.{ℕ, _+_}
@@ -14,7 +14,8 @@ use Rattle.task.specs.declared.Turn.{Turn}
 use Rattle.task.specs.State.{noSchedule, isKept, restOk, wanted}
 use Rattle.task.specs.Alarms.{listening}
 use Rattle.task.specs.Schedules.{advance, triggered}
-use Rattle.task.specs.Turns.{dueTurn, endTurn, preventTurn, suspendTurn, continueTurn, resumeTurn, tickTurn, scheduleTurn}
+use Rattle.task.specs.Coming.{comes}
+use Rattle.task.specs.Turns.{unmarked, dueTurn, endTurn, preventTurn, suspendTurn, continueTurn, resumeTurn, tickTurn, scheduleTurn}
 
 -- A turn is fair; p says whether it is that of a PREVENT.
 pub record Fair (p : Bool) (t : Task) (u : Turn) : Type 0 where
@@ -38,6 +39,10 @@ pub record TurnsAreFair : Type 0 where
   pub resume : (n : Instant) (t : Task) → Fair false t (resumeTurn n t)
   pub tick : (n : Instant) (t : Task) → restOk t ≡ true → Fair false t (tickTurn n t)
   pub schedule : (n : Instant) (s : Schedule) (t : Task) → restOk t ≡ true → Fair false t (scheduleTurn n s t)
+
+-- A tick to an instant at which nothing comes leaves the task as it is.
+abbrev pub QuietTurn : Type 0
+QuietTurn = (n : Instant) (t : Task) → comes n t ≡ false → tickTurn n t ≡ unmarked t
 
 -- A trigger replaces whatever was to come: first and last are computed anew from n, with no regard to the old ones.
 abbrev pub TriggerReplaces : Type 0

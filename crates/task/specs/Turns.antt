@@ -1,7 +1,8 @@
 -- One task's turn: what a due, an end, a tick or a call does to it, and which sets have it (document 01, "The step").
-use mathlib.Core.Bool.{Bool, true, false, cond, _&&_, _||_}
+use mathlib.Core.Bool.{Bool, true, false, cond, _&&_}
 use Prim.Native.Nat.{ℕ, zero, suc}
 use lib.Dec.{eqb}
+use Rattle.calendar.specs.Moments.{isAt}
 use Rattle.calendar.specs.declared.Instant.{Instant}
 use Rattle.task.specs.declared.Hold.{Hold}
 use Rattle.task.specs.declared.Hold.the-variants.{Unheld, Suspended, Delayed}
@@ -13,6 +14,7 @@ use Rattle.task.specs.declared.Turn.{Turn}
 use Rattle.task.specs.State.{noSchedule, isKept, withCurrent, withAlive, withKept, withHold, withSchedule, waitOver}
 use Rattle.task.specs.Alarms.{falls, listens}
 use Rattle.task.specs.Schedules.{advance, triggered}
+use Rattle.task.specs.Coming.{delayEnd}
 
 -- A turn that marks nothing.
 abbrev pub unmarked : Task → Turn
@@ -80,9 +82,7 @@ unfoldable pub resumeTurn : Instant → Task → Turn
 resumeTurn n t = unmarked (withHold (Delayed n) t)
 
 abbrev pub delayEnds : Instant → Hold → Bool
-delayEnds n Unheld = false
-delayEnds n Suspended = false
-delayEnds n (Delayed m) = eqb (m .0) (n .0)
+delayEnds n h = isAt n (delayEnd h)
 
 -- A task delayed until n is unheld.
 unfoldable pub wake : Instant → Task → Task
@@ -99,10 +99,6 @@ fallTurn n t =
 -- A tick to n: the delay first, then the schedule.
 abbrev pub tickTurn : Instant → Task → Turn
 tickTurn n t = fallTurn n (wake n t)
-
--- A tick to n changes the task.
-abbrev pub stirs : Instant → Task → Bool
-stirs n t = delayEnds n (t .hold) || falls n (t .schedule .alarm)
 
 -- A schedule, from now on.
 abbrev pub scheduleTurn : Instant → Schedule → Task → Turn

@@ -1,7 +1,7 @@
 -- What is carried on stays the same, and the text grows by each record's line.
 use borrow.Author.Needs.{needs}
 use borrow.Author.Tests.{not-true, not-false, ltb-true}
-use mathlib.Core.Path.{_≡_, sym, _∙_, subst}
+use mathlib.Core.Path.{_≡_, sym, ap, _∙_, subst}
 use mathlib.Core.Bool.{true}
 use mathlib.Core.Logic.{⊎-elim}
 use Prim.Native.Nat.{ℕ, _+_, _-_, _≤_, _<_}
@@ -10,11 +10,11 @@ use lib.ListN.{length}
 use Rattle.machine.specs.declared.State.{State}
 use Rattle.lines.specs.Lines.{longestLine}
 use Rattle.lock.proofs.Bools.{both}
-use Rattle.calendar.specs.Limits.{day}
-use Rattle.calls.proofs.StirLaws.{said-ok, said-runner, quiet-until-then}
-use Rattle.calls.specs.Stirring.{QuietBefore}
+use Rattle.calendar.specs.Limits.{day, lastInstant}
+use Rattle.calendar.specs.Moments.{upTo}
+use Rattle.calls.proofs.StirLaws.{said-ok, said-runner}
 use Rattle.script.proofs.OwnedTables.{tables-long}
-use Rattle.script.proofs.Going.{Going, good, early, few, ahead, fits, started, stopped, refused, moved, stepped}
+use Rattle.script.proofs.Going.{Still, still-next, Going, good, early, few, ahead, fits, started, stopped, refused, moved, stepped}
 use Rattle.script.proofs.run.run.Statement.{statement}
 use Rattle.script.proofs.run.run.Tie as tie
 
@@ -28,7 +28,7 @@ abbrev μ-loop : tie.MeasureT-loop
 abbrev N : Type 0
 N = tie.After-end-of Inv-loop μ-loop
 
--- Where the kernel passes the test, and once nothing comes before quiet.
+-- Where the kernel passes the test, and once ticks before quiet are known to be quiet.
 abbrev E : Type 0
 E = tie.Else1 Inv-loop μ-loop
 
@@ -47,12 +47,10 @@ kOf c = nOf (eOf c) .before .before .loop .k
 passes : (c : E) → nOf c .before .before .before .survey .result .ok ≡ true
 passes c = not-false _ (c .if1 .left)
 
-quiet-as : (c : J) {q : ℕ} → c .if2 .quiet ≡ q → QuietBefore q (kOf c) → QuietBefore (c .if2 .quiet) (kOf c)
-quiet-as c e = subst (λ (q : ℕ). QuietBefore q (kOf c)) (sym e)
-
-quietly : (c : J) → QuietBefore (c .if2 .quiet) (kOf c)
+quietly : (c : J) → Still (c .if2 .quiet) (kOf c)
 quietly c =
-    ⊎-elim (λ w. quiet-as c (w .2 ∙ w .1 .ensures) (quiet-until-then (kOf c))) (λ w. quiet-as c (w .1) (nOf (eOf c) .before .before .loop .inv .still)) (c .if2 .came)
+    ⊎-elim (λ w. still-next (kOf c) (w .3 ∙ w .2 .ensures ∙ ap (upTo (lastInstant + 1)) (w .1 .ensures)))
+    (λ w. subst (λ (q : ℕ). Still q (kOf c)) (sym (w .1)) (nOf (eOf c) .before .before .loop .inv .still)) (c .if2 .came)
 
 survey-requires : tie.Need-survey-requires Inv-loop μ-loop
 survey-requires c κs = search needs
@@ -112,55 +110,60 @@ is-tick-requires c κs = search needs
 add-if2 : tie.Need-add-if2 Inv-loop μ-loop
 add-if2 c = let e = c .before .before .before in omega (arith, early (nOf e .before .before .loop .inv) (passes e))
 
-quiet-before-requires : tie.Need-quiet-before-requires Inv-loop μ-loop
-quiet-before-requires c κs = let e = c .before .before .before .before in few (nOf e .before .before .loop .inv) (passes e)
+next-event-requires : tie.Need-next-event-requires Inv-loop μ-loop
+next-event-requires c κs = let e = c .before .before .before .before in few (nOf e .before .before .loop .inv) (passes e)
+
+add-up-to : tie.Need-add-up-to Inv-loop μ-loop
+add-up-to c = search needs
+
+up-to-requires : tie.Need-up-to-requires Inv-loop μ-loop
+up-to-requires c κs = search needs
 
 add-if3 : tie.Need-add-if3 Inv-loop μ-loop
-add-if3 c = let e = eOf (c .before .before) in omega (arith, early (nOf e .before .before .loop .inv) (passes e))
+add-if3 c = let e = eOf (c .before) in omega (arith, early (nOf e .before .before .loop .inv) (passes e))
 
 plus-requires : tie.Need-plus-requires Inv-loop μ-loop
-plus-requires c κs = let e = eOf (c .before .before .before) in omega (arith, early (nOf e .before .before .loop .inv) (passes e))
+plus-requires c κs = let e = eOf (c .before .before) in omega (arith, early (nOf e .before .before .loop .inv) (passes e))
 
 plain-requires-2 : tie.Need-plain-requires-2 Inv-loop μ-loop
 plain-requires-2 c κs = search needs
 
 line-at-requires-2 : tie.Need-line-at-requires-2 Inv-loop μ-loop
-line-at-requires-2 c κs = room (nOf (eOf (c .before .before .before .before .before .before)))
+line-at-requires-2 c κs = room (nOf (eOf (c .before .before .before .before .before)))
 
 loop-less-2 : tie.Need-loop-less-2 Inv-loop μ-loop
-loop-less-2 c = less (nOf (eOf (c .before .before .before .before .before .before .before .before .before)))
+loop-less-2 c = less (nOf (eOf (c .before .before .before .before .before .before .before .before)))
 
 loop-again-2 : tie.Need-loop-again-2 Inv-loop μ-loop
 loop-again-2 c =
     let a = c .before .before in
     let p = a .before .before in
     let u = p .before in
-    let j = u .before .before .before .before in
+    let j = u .before .before .before in
     let n = nOf (eOf j) in
     let x = both _ _ (u .before .if3 .taken) in
-    let y = both _ _ (x .0) in
     rw (u .plus .ensures)
     (moved (n .before .before .loop .inv) (n .end-of .result) (n .before .loop-test .taken) (n .end-of .ensures) (passes (eOf j)) (j .if2 .quiet) (quietly j)
-    (sym (j .before .before .is-tick .ensures) ∙ y .0) (ltb-true _ _ (y .1)) (ltb-true _ _ (x .1)) (rw (p .plain2 .ensures) at (a .line-at2 .ensures .0))
+    (sym (j .before .before .is-tick .ensures) ∙ x .0) (ltb-true _ _ (x .1)) (rw (p .plain2 .ensures) at (a .line-at2 .ensures .0))
     (a .line-at2 .ensures .1) (a .line-at2 .kept .1 .0))
 
 step-on-requires : tie.Need-step-on-requires Inv-loop μ-loop
 step-on-requires c κs =
-    let e = eOf (c .before .before .before) in
+    let e = eOf (c .before .before) in
     let g = nOf e .before .before .loop .inv in
     (good g (passes e), g .runs (passes e))
 
 line-if-requires : tie.Need-line-if-requires Inv-loop μ-loop
-line-if-requires c κs = room (nOf (eOf (c .before .before .before .before .before .before .before .before .before)))
+line-if-requires c κs = room (nOf (eOf (c .before .before .before .before .before .before .before .before)))
 
 loop-less-3 : tie.Need-loop-less-3 Inv-loop μ-loop
-loop-less-3 c = less (nOf (eOf (c .before .before .before .before .before .before .before .before .before .before .before .before)))
+loop-less-3 c = less (nOf (eOf (c .before .before .before .before .before .before .before .before .before .before .before)))
 
 loop-again-3 : tie.Need-loop-again-3 Inv-loop μ-loop
 loop-again-3 c =
     let a = c .before .before in
     let z = a .before .before .before .before .before .before in
-    let j = z .before .before .before .before in
+    let j = z .before .before .before in
     let n = nOf (eOf j) in
     stepped (n .before .before .loop .inv) (n .end-of .result) (n .before .loop-test .taken) (n .end-of .ensures) (passes (eOf j)) (z .step-on .result)
     (z .step-on .ensures) (a .line-if .ensures .0) (a .line-if .ensures .1) (a .line-if .kept .1 .1 .0)
@@ -190,7 +193,9 @@ run-spec =
     loop-again
     is-tick-requires
     add-if2
-    quiet-before-requires
+    next-event-requires
+    add-up-to
+    up-to-requires
     add-if3
     plus-requires
     plain-requires-2

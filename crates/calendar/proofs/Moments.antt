@@ -1,0 +1,79 @@
+-- The first of some moments that is later than n: none of them comes between, and it is one of them.
+use mathlib.Core.Path.{_≡_, refl}
+use mathlib.Core.Logic.{_⊎_, inl, inr, ⊎-elim}
+use mathlib.Core.Bool.{Bool, true, false, cond, _&&_, _||_, or-true, or-assoc}
+use mathlib.Core.List.{List, [], _∷_, _++_}
+use Prim.Native.Nat.{ℕ, _<_}
+use native.Mathlib.Omega.{arith}
+use lib.Dec.{eqb, ltb}
+use borrow.Author.Tests.{ltb-true, ltb-false, lt-ltb, eq-eqb, ne-eqb}
+use Rattle.calendar.specs.declared.Instant.{Instant}
+use Rattle.calendar.specs.declared.Moment.{Moment}
+use Rattle.calendar.specs.declared.Moment.the-variants.{Never, At}
+use Rattle.calendar.specs.Times.{instant}
+use Rattle.calendar.specs.Moments.{isAt, hasAt, before, upTo, sooner, firstAfter}
+
+-- ---- one moment
+
+-- What is below it is below l and earlier than the moment.
+pub up-to-before : (l : ℕ) (m : Moment) (x : ℕ) → x < upTo l m → (x < l) × (before (instant x) m ≡ true)
+up-to-before l Never x h = (h, refl)
+up-to-before l (At n) x h = go (ltb (n .0) l) refl h
+  where
+    go : (b : Bool) → ltb (n .0) l ≡ b → x < cond b (n .0) l → (x < l) × (ltb x (n .0) ≡ true)
+    go true e h = (omega (arith, ltb-true (n .0) l e), lt-ltb x (n .0) h)
+    go false e h = (h, lt-ltb x (n .0) (omega (arith, ltb-false (n .0) l e)))
+
+-- ---- one more moment
+
+module _ (n x : Instant) (l : n .0 < x .0) where
+  -- What is earlier than the sooner of two is earlier than the one, and isn't the other.
+  sooner-none : (m s : Moment) → before x (sooner n m s) ≡ true → (isAt x m ≡ false) × (before x s ≡ true)
+  sooner-none Never s e = (refl, e)
+  sooner-none (At m) s e = go (ltb (n .0) (m .0)) (before m s) refl refl e
+    where
+      earlier : (s : Moment) → x .0 < m .0 → before m s ≡ true → before x s ≡ true
+      earlier Never a q = refl
+      earlier (At y) a q = lt-ltb (x .0) (y .0) (omega (arith, ltb-true (m .0) (y .0) q))
+
+      later : (s : Moment) → before m s ≡ false → before x s ≡ true → x .0 < m .0
+      later Never q e = absurd (let z : _≡_ {A = ℕ} 0 1 = cc in omega arith)
+      later (At y) q e = omega (arith, ltb-false (m .0) (y .0) q, ltb-true (x .0) (y .0) e)
+
+      go : (b c : Bool) → ltb (n .0) (m .0) ≡ b → before m s ≡ c → before x (cond (b && c) (At m) s) ≡ true
+          → (eqb (m .0) (x .0) ≡ false) × (before x s ≡ true)
+      go false c p q e = (ne-eqb (m .0) (x .0) (λ h. omega (arith, ltb-false (n .0) (m .0) p)), e)
+      go true false p q e = (ne-eqb (m .0) (x .0) (λ h. omega (arith, later s q e)), e)
+      go true true p q e =
+          let l = ltb-true (x .0) (m .0) e in (ne-eqb (m .0) (x .0) (λ h. omega arith), earlier s l q)
+
+  pub first-none : (ms : List Moment) → before x (firstAfter n ms) ≡ true → hasAt x ms ≡ false
+  unfolding firstAfter hasAt
+  first-none [] e = refl
+  first-none (m ∷ ms) e = let p = sooner-none m (firstAfter n ms) e in rw (p .0, first-none ms (p .1))
+
+module _ (n : Instant) where
+  -- The sooner of two is the one, or the other and later than n.
+  sooner-is : (m s : Moment) (a : Instant) → sooner n m s ≡ At a → (s ≡ At a) ⊎ ((n .0 < a .0) × (m ≡ At a))
+  sooner-is Never s a e = inl e
+  sooner-is (At m) s a e = go (ltb (n .0) (m .0)) (before m s) refl e
+    where
+      go : (b c : Bool) → ltb (n .0) (m .0) ≡ b → cond (b && c) (At m) s ≡ At a → (s ≡ At a) ⊎ ((n .0 < a .0) × (At m ≡ At a))
+      go false c p e = inl e
+      go true false p e = inl e
+      go true true p e = let q : m ≡ a = cc in inr (rw (← q) (ltb-true (n .0) (m .0) p), e)
+
+  pub first-is : (ms : List Moment) (a : Instant) → firstAfter n ms ≡ At a → (n .0 < a .0) × (hasAt a ms ≡ true)
+  unfolding firstAfter hasAt
+  first-is [] a e = absurd (let z : _≡_ {A = ℕ} 0 1 = cc in omega arith)
+  first-is (m ∷ ms) a e =
+      ⊎-elim (λ h. let p = first-is ms a h in (p .0, rw (p .1, or-true)))
+      (λ h. (h .0, rw (h .1, eq-eqb (a .0) (a .0) refl)))
+      (sooner-is m (firstAfter n ms) a e)
+
+-- ---- two lists
+
+pub has-append : (x : Instant) (a b : List Moment) → hasAt x (a ++ b) ≡ (hasAt x a || hasAt x b)
+unfolding hasAt
+has-append x [] b = refl
+has-append x (m ∷ a) b = rw (has-append x a b, or-assoc)

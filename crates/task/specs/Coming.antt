@@ -1,0 +1,29 @@
+-- What comes to a task without another call, and when.
+use mathlib.Core.Bool.{Bool, cond}
+use mathlib.Core.List.{List, [], _∷_}
+use Rattle.calendar.specs.Moments.{hasAt}
+use Rattle.calendar.specs.declared.Instant.{Instant}
+use Rattle.calendar.specs.declared.Moment.{Moment}
+use Rattle.calendar.specs.declared.Moment.the-variants.{Never, At}
+use Rattle.task.specs.declared.Alarm.{Alarm}
+use Rattle.task.specs.declared.Hold.{Hold}
+use Rattle.task.specs.declared.Hold.the-variants.{Unheld, Suspended, Delayed}
+use Rattle.task.specs.declared.Task.{Task}
+use Rattle.task.specs.Alarms.{pending}
+
+abbrev pub delayEnd : Hold → Moment
+delayEnd Unheld = Never
+delayEnd Suspended = Never
+delayEnd (Delayed n) = At n
+
+-- The next due of a schedule. One that waits for its interrupt has none.
+abbrev pub nextStart : Alarm → Moment
+nextStart a = cond (pending (a .plan)) (At (a .next)) Never
+
+-- All that pends for a task.
+abbrev pub pendings : Task → List Moment
+pendings t = delayEnd (t .hold) ∷ nextStart (t .schedule .alarm) ∷ []
+
+-- Something comes to the task at n.
+abbrev pub comes : Instant → Task → Bool
+comes n t = hasAt n (pendings t)
