@@ -39,7 +39,7 @@ use Rattle.machine.proofs.Works.{turn-at}
 use Rattle.machine.proofs.Sets.{setOf-lt}
 use Rattle.survey.proofs.TestLaws.{wait-of}
 use Rattle.survey.specs.Looks.{putIf, waitsOk}
-use Rattle.serving.specs.Ends.{marksOf, served, workHere, servedOf}
+use Rattle.serving.specs.Ends.{marksOf, served, workHere, servedOf, noMarks, answerOf}
 use Rattle.serving.specs.declared.ends.Marks.{Marks}
 use Rattle.calls.proofs.TurnCases.{sound}
 use Rattle.machine.specs.declared.Running.{Running}
@@ -127,7 +127,7 @@ pub record Made (f : Task → Turn) (k : State) (i : ℕ) (next : State) (m : Ma
   pub marks : m ≡ marksAfter f i (k .tasks)
 
 module _ (f : Task → Turn) (k : State) where
-  pub made-none : Made f k 0 k (record { due = 0; started = 0; ended = 0; lost = 0; granted = 0 })
+  pub made-none : Made f k 0 k noMarks
   unfolding tasksAfter setAfter setOf
   made-none = record { state = refl; marks = refl }
 
@@ -169,26 +169,14 @@ module _ (f : Task → Turn) (k : State) where
 
 -- ---- what they leave of a kernel that passes the test
 
-abbrev pub withNow : Instant → State → State
-withNow n k =
-    record {
-      tasks = k .tasks;
-      locks = k .locks;
-      enabled = k .enabled;
-      counts = k .counts;
-      clock = k .clock;
-      now = n;
-      begun = k .begun;
-    }
-
--- The kernel in which every task has had its turn, at instant n.
+-- The kernel in which every task has had its turn, before the instant moves to n.
 abbrev pub everyDone : State → Instant → (Task → Turn) → State
-everyDone k n f = withNow n (withState (everyTurn k n f .tasks) (k .locks) (k .enabled) k)
+everyDone k n f = withState (everyTurn k n f .tasks) (k .locks) (k .enabled) k
 
-pub every-finish : (k : State) (n : Instant) (f : Task → Turn) {next : State} {m : Marks}
-    → next ≡ everyDone k n f → m ≡ marksOf (everyTurn k n f) → finish next (workHere next m) ≡ finish k (everyTurn k n f)
+pub every-finish : (k : State) (f : Task → Turn) {next : State} {m : Marks}
+    → next ≡ everyDone k (k .now) f → m ≡ marksOf (everyTurn k (k .now) f) → finish next (workHere next m) ≡ finish k (everyTurn k (k .now) f)
 unfolding finish everyTurn
-every-finish k n f a b = rw (a, b)
+every-finish k f a b = rw (a, b)
 
 module _ (day : ℕ) (k : State) (v : valid day k ≡ true) where
   -- Turns that keep the limits of a task keep the limits of the waits.
@@ -226,24 +214,13 @@ every-idle day k v long n f new =
     ∙ nobody-untest k (parts day k v .stuck) i l))
     (servable-idle c ts (k .locks) i))
 
--- The end of a call after which the task r runs, with nobody served.
-abbrev pub unserved : State → Marks → Running → Stepped
-unserved k m r =
-    record {
-      state = begunAt (k .now) k;
-      answer = record { number = 0; running = r; due = m .due; started = m .started; ended = m .ended; lost = m .lost; granted = m .granted };
-    }
-
-unserved-finish : (k : State) (m : Marks) {r : Running} → nextServed (k .counts .tasks) (served k 0) ≡ Idle → r ≡ runner k → unserved k m r ≡ finish k (workHere k m)
-unfolding finish servedOf
-unserved-finish k m h e = rw (e, served-idle k (m .granted) h)
-
--- So it ends where nobody is to be served once every task has had its turn.
+-- The call ends at instant n where nobody is to be served once every task has had its turn.
 pub every-unserved : (k : State) (n : Instant) (f : Task → Turn) {next : State} {m : Marks} {r : Running}
     → next ≡ everyDone k n f → m ≡ marksOf (everyTurn k n f)
     → nextServed (k .counts .tasks) (served (everyDone k n f) 0) ≡ Idle → r ≡ runningOf (k .counts .tasks) (everyTurn k n f .tasks)
-    → unserved next m r ≡ finish k (everyTurn k n f)
-every-unserved k n f a b h e = rw (a, b) (unserved-finish (everyDone k n f) (marksOf (everyTurn k n f)) h e) ∙ every-finish k n f refl refl
+    → record { state = begunAt n next; answer = answerOf 0 r m } ≡ finish k (everyTurn k n f)
+unfolding finish servedOf everyTurn
+every-unserved k n f a b h e = rw (a, b, e, served-idle (everyDone k n f) 0 h)
 
 -- ---- a tick at the last instant is refused
 

@@ -1,15 +1,15 @@
--- Who runs after a tick: no turn makes a task less urgent, so the least urgency only has to be held against the turns.
-use mathlib.Core.Path.{_≡_, refl, sym, _∙_}
+-- Who runs after a tick: no turn makes a task less urgent, so the lead only has to be held against the turns.
+use mathlib.Core.Path.{_≡_, refl, sym, _∙_, ap}
 use mathlib.Core.Logic.{_≢_}
-use mathlib.Core.Bool.{Bool, true, false, not, cond, _&&_, _||_, and-false}
+use mathlib.Core.Bool.{Bool, true, false, not, _&&_, _||_, and-false}
 use mathlib.Core.List.{List}
-use Prim.Native.Nat.{ℕ, zero, suc, _+_, _*_, _≤_, _<_, min}
-use native.Mathlib.Numerals.{add-one}
+use Prim.Native.Nat.{ℕ, _+_, _*_, _≤_, _<_}
+use native.Mathlib.Nat.{le-antisymm}
 use native.Mathlib.Omega.{arith}
 use lib.Dec.{ltb, eqb}
-use lib.ListN.{set, length-set}
+use lib.ListN.{length, set, length-set}
 use lib.Seq.{getD-set-same, getD-set-other}
-use borrow.Author.Tests.{ltb-true, ltb-false}
+use borrow.Author.Tests.{lt-ltb, ltb-true, ltb-false}
 use Rattle.calendar.specs.declared.Instant.{Instant}
 use Rattle.lock.specs.Locks.{waiting}
 use Rattle.lock.proofs.Bools.{byBool, byEq, contra, both}
@@ -26,93 +26,63 @@ use Rattle.task.specs.declared.Task.{Task}
 use Rattle.task.specs.declared.Turn.{Turn}
 use Rattle.task.proofs.Laws.{comes-parts}
 use Rattle.machine.specs.State.{mostTasks, taskAt}
-use Rattle.machine.specs.Running.{urgency, runningOf}
+use Rattle.machine.specs.Running.{urgency, mostUrgent, runningOf}
+use Rattle.machine.specs.declared.Running.{Running}
 use Rattle.machine.specs.declared.Running.the-variants.{Idle, Runs}
-use Rattle.machine.proofs.Below.{mostUrgent-at}
-use Rattle.survey.specs.Looks.{nobody, taskOf}
-use Rattle.survey.proofs.LeastLaws.{Bounded, leastOf, canRun, least-none, least-next, least-found}
+use Rattle.machine.proofs.Below.{Found, scan-finds, mostUrgent-at}
+use Rattle.survey.specs.Leads.{nobody, noLead, leadOf, against}
+use Rattle.survey.specs.declared.scan.Lead.{Lead}
+use Rattle.survey.proofs.LeadLaws.{canRun, lead-who}
 use Rattle.calls.specs.Stirring.{mayStir}
 
--- ---- the lesser of two
+-- ---- one number that changes
 
--- The lesser of x and u, where u counts.
-abbrev pick : Bool → ℕ → ℕ → ℕ
-pick b u x = cond (b && ltb u x) u x
+-- A scan finds one, if urgencies tell numbers apart.
+found-one : (n : ℕ) (test : ℕ → Bool) (u : ℕ → ℕ) → ((i j : ℕ) → i < n → j < n → u i ≡ u j → i ≡ j)
+    → (r r′ : Running) → Found n test u r → Found n test u r′ → r ≡ r′
+found-one n test u apart Idle Idle f g = refl
+found-one n test u apart Idle (Runs j) f g = contra (g .1) (f j (g .0))
+found-one n test u apart (Runs i) Idle f g = contra (f .1) (g i (f .0))
+found-one n test u apart (Runs i) (Runs j) f g =
+    ap Runs (apart i j (f .0) (g .0) (le-antisymm (f .2 j (g .0) (g .1)) (g .2 i (f .0) (f .1))))
 
-pick-min : (u x : ℕ) → cond (ltb u x) u x ≡ min u x
-pick-min u x =
-    byBool (ltb u x) (λ e. rw e (omega (arith, ltb-true u x e))) (λ e. rw e (omega (arith, ltb-false u x e)))
+-- If it passes on as urgent as before, or didn't pass, only it can become the lead.
+module _ (n : ℕ) (test test′ : ℕ → Bool) (u u′ : ℕ → ℕ) (i : ℕ) (l : i < n)
+    (same : (j : ℕ) → j ≢ i → (test j ≡ test′ j) × (u j ≡ u′ j))
+    (stays : test i ≡ true → (test′ i ≡ true) × (u i ≡ u′ i)) (small : u′ i < nobody) where
+  kept : (j : ℕ) → test j ≡ true → (test′ j ≡ true) × (u j ≡ u′ j)
+  kept j e = byEq j i (λ q. rw q (stays (rw q at e))) (λ q. (sym (same j q .0) ∙ e, same j q .1))
 
-swapped : (a b : Bool) (u v x : ℕ) → pick a u (pick b v x) ≡ pick b v (pick a u x)
-swapped false b u v x = refl
-swapped true false u v x = refl
-swapped true true u v x =
-    rw (pick-min v x, pick-min u x, pick-min u (min v x), pick-min v (min u x)) (omega arith)
+  held : (r : Running) → Found n test u r → (r′ : Running) × (leadOf u′ r′ ≡ against (leadOf u r) (test′ i) (u′ i) i) × Found n test′ u′ r′
+  unfolding leadOf against
+  held Idle f =
+      byBool (test′ i)
+      (λ e. (Runs i, rw (e, lt-ltb _ _ small), (l, e, λ j h t. byEq j i (λ q. rw q (omega arith)) (λ q. contra (same j q .0 ∙ t) (f j h)))))
+      (λ e. (Idle, rw e, λ j h. byEq j i (λ q. rw q e) (λ q. sym (same j q .0) ∙ f j h)))
+  held (Runs k) f =
+      byBool (test′ i && ltb (u′ i) (u k))
+      (λ e.
+      let b = both (test′ i) _ e in
+      (Runs i, rw e, (l, b .0, λ j h t. byEq j i (λ q. rw q (omega arith)) (λ q. omega (arith, ltb-true (u′ i) (u k) (b .1), f .2 j h (same j q .0 ∙ t), same j q .1)))))
+      (λ e.
+      let p = kept k (f .1) in (
+        Runs k,
+        rw (e, p .1),
+        (
+          f .0,
+          p .0,
+          λ j h t.
+              byEq j i
+              (λ q. let t′ : test′ i ≡ true = rw q at t in rw q (omega (arith, p .1, ltb-false (u′ i) (u k) (rw t′ at e))))
+              (λ q. omega (arith, p .1, f .2 j h (same j q .0 ∙ t), same j q .1)),
+        ),
+      ))
 
--- One that counts again, and no later.
-again : (a b : Bool) (u v x : ℕ) → (a ≡ true → (b ≡ true) × (v ≡ u)) → pick b v (pick a u x) ≡ pick b v x
-again false b u v x h = refl
-again true b u v x h = let q = h refl in rw (q .0, q .1, pick-min u x, pick-min u (min u x)) (omega arith)
-
--- ---- the least urgency of a table
-
--- The least urgency of those among the first n tasks that can run.
-abbrev pub lowest : List Task → ℕ → ℕ
-lowest ts n = leastOf n (canRun ts) ts
-
--- It is the running task's.
-pub lowest-idle : (ts : List Task) (n : ℕ) → runningOf n ts ≡ Idle → lowest ts n ≡ nobody
-unfolding runningOf leastOf
-lowest-idle ts n e = rw e
-
-pub lowest-runs : (ts : List Task) (n j : ℕ) → runningOf n ts ≡ Runs j → lowest ts n ≡ mostTasks * taskAt ts j .current + j
-unfolding runningOf leastOf urgency
-lowest-runs ts n j e = rw e
-
-lowest-next : (ts : List Task) → Bounded ts → (n : ℕ) → n < mostTasks
-    → lowest ts (suc n) ≡ pick (runnable (taskAt ts n)) (mostTasks * taskAt ts n .current + n) (lowest ts n)
-unfolding urgency
-lowest-next ts f n l = rw (← add-one n) (least-next (canRun ts) ts n f l)
-
--- ---- a table in which task i is now t
-
-module _ (ts : List Task) (f : Bounded ts) (i : ℕ) (l : i < mostTasks) (t : Task) (g : t .current < 256) where
-  abbrev changed : List Task
-  changed = set ts i t
-
-  there : taskAt changed i ≡ t
-  there = getD-set-same ts i t noTask (omega (arith, f .long))
-
-  elsewhere : (j : ℕ) → j ≢ i → taskAt changed j ≡ taskAt ts j
-  elsewhere j ne = getD-set-other ts i j t noTask ne
-
-  pub bounded-set : Bounded changed
-  bounded-set =
-      record {
-        long = length-set ts i t ∙ f .long;
-        range = λ j. byEq j i (λ e. rw (e, there) g) (λ ne. rw (elsewhere j ne) (f .range j));
-      }
-
-  lowest-before : (n : ℕ) → n ≤ i → lowest changed n ≡ lowest ts n
-  lowest-before zero h = least-none _ _ ∙ sym (least-none _ _)
-  lowest-before (suc n) h =
-      lowest-next changed bounded-set n (omega arith)
-      ∙ rw (elsewhere n (λ e. omega arith), lowest-before n (omega arith)) (sym (lowest-next ts f n (omega arith)))
-
-  -- If the task is no less urgent than it was, only its own urgency can be the lesser one.
-  pub lowest-set : (canRun ts i ≡ true → (runnable t ≡ true) × (t .current ≡ taskAt ts i .current)) → (n : ℕ) → i < n → n ≤ mostTasks
-      → lowest changed n ≡ pick (runnable t) (mostTasks * t .current + i) (lowest ts n)
-  lowest-set h zero a b = absurd (omega arith)
-  lowest-set h (suc n) a b =
-      byEq n i
-      (λ e. rw e
-      (lowest-next changed bounded-set i l
-      ∙ rw (there, lowest-before i (omega arith), lowest-next ts f i l)
-      (sym (again (runnable (taskAt ts i)) (runnable t) _ _ (lowest ts i) (λ r. let q = h r in (q .0, rw (q .1)))))))
-      (λ ne.
-      lowest-next changed bounded-set n (omega arith)
-      ∙ rw (elsewhere n ne, lowest-set h n (omega arith) (omega arith), lowest-next ts f n (omega arith))
-      (swapped (runnable (taskAt ts n)) (runnable t) _ _ (lowest ts n)))
+  lead-set : ((i j : ℕ) → i < n → j < n → u′ i ≡ u′ j → i ≡ j)
+      → leadOf u′ (mostUrgent n test′ u′) ≡ against (leadOf u (mostUrgent n test u)) (test′ i) (u′ i) i
+  lead-set apart =
+      let h = held _ (scan-finds n test u) in
+      ap (leadOf u′) (found-one n test′ u′ apart _ (h .0) (scan-finds n test′ u′) (h .2)) ∙ h .1
 
 -- ---- a turn at a tick
 
@@ -138,41 +108,49 @@ runs-on n t e =
     rw (awake n (t .hold) (p .1))
     (byBool (falls n (t .schedule .alarm)) (λ f. rw f (due-on (t .schedule .priority) t′ e (t .alive) (t .kept) (p .0))) (λ f. rw f (e, refl)))
 
--- ---- a table and the least urgency of those of its first c tasks that can run
+-- ---- a table, and who leads of those of its first c tasks that can run
 
-pub record Led (ts : List Task) (c u : ℕ) : Type 0 where
-  pub bounded : Bounded ts
-  pub least : u ≡ lowest ts c
+pub record Led (ts : List Task) (c : ℕ) (lead : Lead) : Type 0 where
+  pub long : length ts ≡ mostTasks
+  pub leads : lead ≡ leadOf (urgency ts) (runningOf c ts)
 
-pub led-idle : (ts : List Task) (c : ℕ) → Bounded ts → runningOf c ts ≡ Idle → {u : ℕ} → u ≡ nobody → Led ts c u
-led-idle ts c f e q = record { bounded = f; least = q ∙ sym (lowest-idle ts c e) }
+pub led-idle : (ts : List Task) (c : ℕ) → length ts ≡ mostTasks → runningOf c ts ≡ Idle → {lead : Lead} → lead ≡ noLead → Led ts c lead
+unfolding leadOf
+led-idle ts c f e q = record { long = f; leads = q ∙ rw e }
 
-pub led-from : (ts : List Task) (c j : ℕ) → Bounded ts → runningOf c ts ≡ Runs j → {u : ℕ} → u ≡ mostTasks * taskAt ts j .current + j → Led ts c u
-led-from ts c j f e q = record { bounded = f; least = q ∙ sym (lowest-runs ts c j e) }
+pub led-from : (ts : List Task) (c j : ℕ) → length ts ≡ mostTasks → runningOf c ts ≡ Runs j → {u : ℕ} {none lead : Lead}
+    → (u ≡ mostTasks * taskAt ts j .current + j) × (u < nobody) → none ≡ noLead → lead ≡ against none true u j → Led ts c lead
+unfolding leadOf against urgency
+led-from ts c j f e v z q = record { long = f; leads = q ∙ rw (z, lt-ltb _ _ (v .1), e, v .0) }
 
 -- Task i has had its turn,
-pub led-more : (n : Instant) (ts : List Task) (c i : ℕ) → i < c → c ≤ mostTasks → {ts′ : List Task} {least least′ : ℕ} {runs : Bool}
-    → (u : Turn) → u ≡ tickTurn n (taskAt ts i) → u .task .current < 256 → Led ts c least
-    → ts′ ≡ set ts i (u .task) → runs ≡ runnable (u .task)
-    → least′ ≡ cond (runs && ltb (mostTasks * u .task .current + i) least) (mostTasks * u .task .current + i) least
-    → Led ts′ c least′
-led-more n ts c i l b u e g h a r q =
-    let f = h .bounded in
-    let on : canRun ts i ≡ true → (runnable (u .task) ≡ true) × (u .task .current ≡ taskAt ts i .current) = λ x. rw e (runs-on n (taskAt ts i) x) in
+pub led-more : (n : Instant) (ts : List Task) (c i : ℕ) → i < c → c ≤ mostTasks → {ts′ : List Task} {lead lead′ : Lead} {runs : Bool} {v : ℕ}
+    → (u : Turn) → u ≡ tickTurn n (taskAt ts i) → Led ts c lead → ts′ ≡ set ts i (u .task) → runs ≡ runnable (u .task)
+    → (v ≡ mostTasks * u .task .current + i) × (v < nobody) → lead′ ≡ against lead runs v i
+    → Led ts′ c lead′
+unfolding runningOf urgency
+led-more n ts c i l b u e h a r v q =
+    let ts′ = set ts i (u .task) in
+    let there : taskAt ts′ i ≡ u .task = getD-set-same ts i (u .task) noTask (omega (arith, h .long)) in
+    let moved =
+    lead-set c (canRun ts) (canRun ts′) (urgency ts) (urgency ts′) i l
+    (λ j ne. let o = getD-set-other ts i j (u .task) noTask ne in (rw o, rw o))
+    (λ x. rw (there, e) (let s = runs-on n (taskAt ts i) x in (s .0, rw (s .1))))
+    (rw (there, ← v .0) (v .1))
+    (λ i j x y z. omega arith) in
     rw a
     (record {
-      bounded = bounded-set ts f i (omega arith) (u .task) g;
-      least = rw (r, h .least) at q ∙ sym (lowest-set ts f i (omega arith) (u .task) g on c l b);
+      long = length-set ts i (u .task) ∙ h .long;
+      leads = q ∙ rw (h .leads, r, v .0) (sym (rw there at moved));
     })
 
 -- or was passed over.
-pub led-still : {ts ts′ : List Task} {c least least′ : ℕ} → Led ts c least → ts′ ≡ ts → least′ ≡ least → Led ts′ c least′
+pub led-still : {ts ts′ : List Task} {c : ℕ} {lead lead′ : Lead} → Led ts c lead → ts′ ≡ ts → lead′ ≡ lead → Led ts′ c lead′
 led-still h a b = rw (a, b) h
 
--- The task of that urgency runs.
-pub led-runs : {ts : List Task} {c least : ℕ} → Led ts c least → c ≤ mostTasks → taskOf least ≡ runningOf c ts
-unfolding runningOf
-led-runs {ts = ts} {c = c} h b = rw (h .least) (least-found (canRun ts) ts (h .bounded) c b)
+-- The lead runs.
+pub led-runs : {ts : List Task} {c : ℕ} {lead : Lead} → Led ts c lead → lead .who ≡ runningOf c ts
+led-runs {ts = ts} {c = c} h = rw (h .leads) (lead-who (urgency ts) (runningOf c ts))
 
 pub runs-below : (ts : List Task) (c j : ℕ) → runningOf c ts ≡ Runs j → j < c
 unfolding runningOf

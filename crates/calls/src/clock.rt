@@ -22,17 +22,16 @@ use calendar::Instant;
 use calendar::LAST_INSTANT;
 use layout::Head;
 use layout::Mark;
-use machine::Answer;
 use machine::Running;
 use machine::State;
 use machine::Stepped;
 use serving::ends::Marks;
+use serving::ends::answer_of;
+use serving::ends::begun_at;
 use serving::ends::done;
 use serving::ends::finished;
-use serving::ends::only_granted;
-use survey::scan::NOBODY;
-use survey::scan::nearest;
-use survey::scan::task_of;
+use serving::ends::no_marks;
+use survey::scan::no_lead;
 use survey::scan::urgency_of;
 use survey::sets::put_if;
 use task::Hold;
@@ -58,21 +57,6 @@ fn marked(m: Marks, i: usize, u: Turn) -> Marks
     }
 }
 
-// The answer to an accepted call after which the task r runs.
-fn answer_of(m: Marks, r: Running) -> Answer
-    ensures { λ a. ⌜ a ≡ record { number = 0; running = r; due = m .due; started = m .started; ended = m .ended; lost = m .lost; granted = m .granted } ⌝ }
-{
-    Answer {
-        number: 0,
-        running: r,
-        due: m.due,
-        started: m.started,
-        ended: m.ended,
-        lost: m.lost,
-        granted: m.granted,
-    }
-}
-
 // Whether a tick to n may stir a task, held so, with this next due.
 fn may_stir(hold: Hold, next: Instant, n: Instant) -> bool
     ensures { λ r. ⌜ r ≡ mayStir n hold next ⌝ }
@@ -94,7 +78,7 @@ pub(crate) fn trigger_all(mut k: State, interrupt: u8) -> Working
     let most = counts.tasks as usize;
     let n = k.now;
     let clock = k.clock;
-    let mut m = only_granted(0);
+    let mut m = no_marks();
     for i in 0..most {
         let t = k.tasks[i];
         if t.listens_to(interrupt) {
@@ -121,11 +105,11 @@ pub(crate) fn ticked(mut k: State, r: Running) -> Stepped
     let n = now.plus(Duration(1));
     let counts = k.counts;
     let most = counts.tasks as usize;
-    let mut m = only_granted(0);
-    let mut least = NOBODY;
+    let mut m = no_marks();
+    let mut lead = no_lead();
     if let Running::Runs(j) = r {
         let at = j as usize;
-        least = urgency_of(k.tasks[at].current, at);
+        lead = lead.against(true, urgency_of(k.tasks[at].current, at), at);
     }
     for i in 0..most {
         let t = k.tasks[i];
@@ -138,14 +122,13 @@ pub(crate) fn ticked(mut k: State, r: Running) -> Stepped
             let after = u.task;
             k.tasks[i] = after;
             m = marked(m, i, u);
-            least = nearest(least, after.is_runnable(), after.current, i);
+            lead = lead.against(after.is_runnable(), urgency_of(after.current, i), i);
         }
     }
-    k.now = n;
-    k.begun = true;
+    let runner = lead.who;
     Stepped {
-        state: k,
-        answer: answer_of(m, task_of(least)),
+        state: begun_at(k, n),
+        answer: answer_of(0, runner, m),
     }
 }
 

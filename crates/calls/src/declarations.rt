@@ -14,11 +14,11 @@ use crate::fresh::empty_bolt;
 use crate::fresh::fresh_task;
 use layout::Head;
 use layout::Mark;
-use machine::Answer;
 use machine::Counts;
 use machine::Running;
 use machine::State;
 use machine::Stepped;
+use serving::ends::plain;
 
 // An answer with empty sets.
 pub(crate) fn answered(k: State, number: u8, running: Running) -> Stepped
@@ -26,15 +26,7 @@ pub(crate) fn answered(k: State, number: u8, running: Running) -> Stepped
 {
     Stepped {
         state: k,
-        answer: Answer {
-            number,
-            running,
-            due: 0,
-            started: 0,
-            ended: 0,
-            lost: 0,
-            granted: 0,
-        },
+        answer: plain(number, running),
     }
 }
 

@@ -16,6 +16,7 @@ use machine::Running;
 use machine::State;
 use machine::Stepped;
 use record::lists::zeros;
+use serving::ends::begun_at;
 
 // Whether a record is a tick.
 pub fn is_tick(s: &[u8]) -> bool
@@ -34,7 +35,7 @@ pub fn is_tick(s: &[u8]) -> bool
 }
 
 // A tick that stirs nobody only moves the instant.
-pub fn quiet_tick(mut k: State, r: Running) -> Stepped
+pub fn quiet_tick(k: State, r: Running) -> Stepped
     requires { ⌜ valid day k ≡ true ⌝ }
     requires { ⌜ r ≡ runner k ⌝ }
     requires { ⌜ stirsNext k ≡ false ⌝ }
@@ -42,8 +43,5 @@ pub fn quiet_tick(mut k: State, r: Running) -> Stepped
     ensures { λ z. ⌜ z ≡ step day k oneTick ⌝ }
 {
     let now = k.now;
-    let n = now.plus(Duration(1));
-    k.now = n;
-    k.begun = true;
-    answered(k, 0, r)
+    answered(begun_at(k, now.plus(Duration(1))), 0, r)
 }

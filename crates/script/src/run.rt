@@ -4,7 +4,6 @@ ghost use Prim.Native.Nat.{_+_, _≤_, min};
 ghost use lib.ListN.{length};
 ghost use Rattle.calendar.specs.Limits.{day};
 ghost use Rattle.layout.specs.Fields.{recordLength};
-ghost use Rattle.machine.specs.Step.{plainAnswer};
 ghost use Rattle.lines.specs.Buffers.{Wrote};
 ghost use Rattle.lines.specs.Lines.{longestLine};
 ghost use Rattle.script.specs.Printed.{shown};
@@ -18,6 +17,8 @@ use layout::RECORD_LENGTH;
 use lines::line_at;
 use machine::Answer;
 use machine::Running;
+use serving::ends::begun_at;
+use serving::ends::plain;
 use survey::look::survey;
 use survey::next::next_event;
 
@@ -41,21 +42,6 @@ fn end_of(at: usize, n: usize) -> usize
         n
     } else {
         at + RECORD_LENGTH
-    }
-}
-
-// An answer with empty sets.
-fn plain(number: u8, running: Running) -> Answer
-    ensures { λ r. ⌜ r ≡ plainAnswer number running ⌝ }
-{
-    Answer {
-        number,
-        running,
-        due: 0,
-        started: 0,
-        ended: 0,
-        lost: 0,
-        granted: 0,
     }
 }
 
@@ -96,9 +82,7 @@ pub fn run(kernel: Kernel, s: &[u8], out: &mut [u8]) -> Ran
             quiet = next_event(k).up_to(LAST_INSTANT + 1);
         }
         if tick & (now.0 + 1 < quiet) {
-            let next = now.plus(Duration(1));
-            k.now = next;
-            k.begun = true;
+            k = begun_at(k, now.plus(Duration(1)));
             fill = line_at(plain(0, r), out, fill);
             continue;
         }

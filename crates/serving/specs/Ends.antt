@@ -3,6 +3,8 @@ use Prim.Native.Nat.{ℕ}
 use Rattle.machine.specs.State.{withState}
 use Rattle.machine.specs.Work.{Work}
 use Rattle.machine.specs.Serving.{Served, serve}
+use Rattle.machine.specs.declared.Answer.{Answer}
+use Rattle.machine.specs.declared.Running.{Running}
 use Rattle.machine.specs.declared.State.{State}
 use Rattle.serving.specs.declared.ends.Marks.{Marks}
 
@@ -34,3 +36,19 @@ workHere k m =
 -- The sets of a work.
 abbrev pub marksOf : Work → Marks
 marksOf w = record { due = w .due; started = w .started; ended = w .ended; lost = w .lost; granted = w .granted }
+
+abbrev pub noMarks : Marks
+noMarks = record { due = 0; started = 0; ended = 0; lost = 0; granted = 0 }
+
+-- An answer with the sets m.
+abbrev pub answerOf : ℕ → Running → Marks → Answer
+answerOf n r m =
+    record {
+      number = n;
+      running = r;
+      due = m .due;
+      started = m .started;
+      ended = m .ended;
+      lost = m .lost;
+      granted = m .granted;
+    }

@@ -5,22 +5,22 @@ ghost use Prim.Native.Nat.{_<_};
 ghost use Rattle.machine.specs.Granting.{servable};
 ghost use Rattle.machine.specs.Serving.{nextServed, grantTo};
 ghost use Rattle.machine.specs.Running.{someone};
-ghost use Rattle.machine.specs.Step.{finish};
+ghost use Rattle.machine.specs.State.{begunAt};
+ghost use Rattle.machine.specs.Step.{plainAnswer, finish};
 ghost use Rattle.machine.specs.Work.{onlyEnabled};
 ghost use Rattle.survey.specs.Looks.{waitsOk};
-ghost use Rattle.serving.specs.Ends.{served, withServed, servedOf, workHere};
+ghost use Rattle.serving.specs.Ends.{served, withServed, servedOf, workHere, noMarks, answerOf};
+use calendar::Instant;
 use lock::Way;
 use lock::is_waiting;
 use machine::Answer;
 use machine::Running;
 use machine::State;
 use machine::Stepped;
-use survey::scan::NOBODY;
 use survey::scan::can_run;
-use survey::scan::nearest;
+use survey::scan::no_lead;
 use survey::scan::places;
 use survey::scan::running;
-use survey::scan::task_of;
 use survey::scan::urgency_of;
 use survey::sets::put_task;
 
@@ -58,7 +58,7 @@ fn next_served(k: State) -> Running
     let counts = k.counts;
     let n = counts.tasks as usize;
     let locks = k.locks;
-    let mut least = NOBODY;
+    let mut lead = no_lead();
     'tasks: for i in 0..n {
         let t = k.tasks[i];
         let wait = t.wait;
@@ -66,7 +66,7 @@ fn next_served(k: State) -> Running
             continue 'tasks;
         }
         let u = urgency_of(k.tasks[i].current, i);
-        if least <= u {
+        if lead.urgency <= u {
             continue 'tasks;
         }
         let m = k.tasks[i].len as usize;
@@ -78,9 +78,9 @@ fn next_served(k: State) -> Running
                 continue 'tasks;
             }
         }
-        least = u;
+        lead = lead.against(true, u, i);
     }
-    task_of(least)
+    lead.who
 }
 
 // Task i is granted the whole list that it waits on.
@@ -123,6 +123,50 @@ fn serve(k: State, granted: u32) -> Serviced
     }
 }
 
+// The kernel after an accepted call, at instant n.
+pub fn begun_at(mut k: State, n: Instant) -> State
+    ensures { λ r. ⌜ r ≡ begunAt n k ⌝ }
+{
+    k.now = n;
+    k.begun = true;
+    k
+}
+
+// An answer: its number, the running task, and the five sets.
+pub fn answer_of(number: u8, running: Running, m: Marks) -> Answer
+    ensures { λ a. ⌜ a ≡ answerOf number running m ⌝ }
+{
+    Answer {
+        number,
+        running,
+        due: m.due,
+        started: m.started,
+        ended: m.ended,
+        lost: m.lost,
+        granted: m.granted,
+    }
+}
+
+// Empty sets.
+pub fn no_marks() -> Marks
+    ensures { λ r. ⌜ r ≡ noMarks ⌝ }
+{
+    Marks {
+        due: 0,
+        started: 0,
+        ended: 0,
+        lost: 0,
+        granted: 0,
+    }
+}
+
+// An answer with empty sets.
+pub fn plain(number: u8, running: Running) -> Answer
+    ensures { λ r. ⌜ r ≡ plainAnswer number running ⌝ }
+{
+    answer_of(number, running, no_marks())
+}
+
 // The end of a call after which some task waits: it may have to be served.
 fn finished_serving(k: State, m: Marks) -> Stepped
     requires { ⌜ waitsOk k ≡ true ⌝ }
@@ -130,32 +174,23 @@ fn finished_serving(k: State, m: Marks) -> Stepped
 {
     let s = serve(k, m.granted);
     let granted = s.granted;
-    let mut next = s.state;
-    next.begun = true;
+    let next = s.state;
     let runner = running(next);
     Stepped {
-        state: next,
-        answer: Answer {
-            number: 0,
-            running: runner,
-            due: m.due,
-            started: m.started,
-            ended: m.ended,
-            lost: m.lost,
-            granted,
-        },
+        state: begun_at(next, k.now),
+        answer: answer_of(0, runner, Marks { granted, ..m }),
     }
 }
 
 // Every accepted call but a tick ends so. The kernel has had its work done, and the marks say what was done. Where
 // nobody waits or none that waits could be granted, there is nobody to serve.
-pub fn finished(mut k: State, m: Marks) -> Stepped
+pub fn finished(k: State, m: Marks) -> Stepped
     requires { ⌜ waitsOk k ≡ true ⌝ }
     ensures { λ r. ⌜ r ≡ finish k (workHere k m) ⌝ }
 {
     let counts = k.counts;
     let n = places(counts.tasks);
-    let mut least = NOBODY;
+    let mut lead = no_lead();
     let mut waits = false;
     for i in 0..n {
         let t = k.tasks[i];
@@ -163,38 +198,17 @@ pub fn finished(mut k: State, m: Marks) -> Stepped
         let hold = t.hold;
         let runs = can_run(k.tasks[i].alive, wait, hold);
         waits = waits | is_waiting(wait);
-        least = nearest(least, runs, k.tasks[i].current, i);
+        lead = lead.against(runs, urgency_of(k.tasks[i].current, i), i);
     }
     if waits {
         if is_someone(next_served(k)) {
             return finished_serving(k, m);
         }
     }
-    k.begun = true;
+    let runner = lead.who;
     Stepped {
-        state: k,
-        answer: Answer {
-            number: 0,
-            running: task_of(least),
-            due: m.due,
-            started: m.started,
-            ended: m.ended,
-            lost: m.lost,
-            granted: m.granted,
-        },
-    }
-}
-
-// Empty sets, but for those that are granted.
-pub fn only_granted(granted: u32) -> Marks
-    ensures { λ r. ⌜ r ≡ record { due = 0; started = 0; ended = 0; lost = 0; granted = granted } ⌝ }
-{
-    Marks {
-        due: 0,
-        started: 0,
-        ended: 0,
-        lost: 0,
-        granted,
+        state: begun_at(k, k.now),
+        answer: answer_of(0, runner, m),
     }
 }
 
@@ -203,5 +217,5 @@ pub fn done(k: State) -> Stepped
     requires { ⌜ waitsOk k ≡ true ⌝ }
     ensures { λ s. ⌜ s ≡ finish k (onlyEnabled k (k .enabled)) ⌝ }
 {
-    finished(k, only_granted(0))
+    finished(k, no_marks())
 }

@@ -1,10 +1,8 @@
--- What owning a kernel by value tells: the length of its table of tasks, the range of each current
--- priority, and the length of each waiting task's list.
-use Prim.Native.Nat.{ℕ, zero, suc, _<_}
+-- What owning a kernel by value tells: the length of its table of tasks and the length of each waiting task's list.
+use Prim.Native.Nat.{ℕ, zero, suc}
 use mathlib.Core.Path.{_≡_, refl, sym, _∙_}
 use mathlib.Core.Bool.{true}
 use mathlib.Core.List.{List, [], _∷_, map}
-use lib.Dec.{lit<}
 use lib.ListN.{length, length-map}
 use mir.Val.{Val}
 use denote.Shadow.{shadow}
@@ -36,9 +34,6 @@ each-task Q f z [] us p i = z
 each-task Q f z (t ∷ ts) [] p i = absurd p
 each-task Q f z (t ∷ ts) (u ∷ us) p zero = f t u (p .0)
 each-task Q f z (t ∷ ts) (u ∷ us) p (suc i) = each-task Q f z ts us (p .1) i
-
-pub current-fits : (k : State) → Good k → (i : ℕ) → taskAt (k .tasks) i .current < 256
-current-fits k g i = each-task (λ t. t .current < 256) (λ t u p. p .1 .1 .1 .0 .1) (lit< tt) (k .tasks) (g .1 .0 .0) (g .1 .0 .1 .1) i
 
 pub list-long : (k : State) → Good k → (i : ℕ) → waiting (taskAt (k .tasks) i .wait) ≡ true → length (taskAt (k .tasks) i .list) ≡ 4
 list-long k g i =

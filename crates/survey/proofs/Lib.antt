@@ -1,7 +1,7 @@
 -- Laws that the proofs of the code share.
 pub mod KernelFacts
 pub mod Owned
-pub mod LeastLaws
+pub mod LeadLaws
 pub mod PlaceLaws
 pub mod TestLaws
 pub mod TaskFit

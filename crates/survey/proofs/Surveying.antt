@@ -1,11 +1,10 @@
 -- The survey of a kernel: what one task adds, and what the whole says.
 use mathlib.Core.Path.{_≡_, refl, sym, _∙_}
-use mathlib.Core.Bool.{Bool, true, false, not, cond, _&&_, _||_, or-false}
+use mathlib.Core.Bool.{Bool, true, false, not, _&&_, _||_, or-false}
 use Prim.Native.Nat.{ℕ, _+_, _*_, _≤_, _<_}
 use native.Mathlib.Nat.{le-antisymm}
 use native.Mathlib.Numerals.{add-one}
 use native.Mathlib.Omega.{arith}
-use lib.Dec.{ltb}
 use Rattle.calendar.specs.Limits.{tick}
 use Rattle.calendar.specs.Times.{duration, plus}
 use Rattle.calendar.specs.declared.Instant.{Instant}
@@ -15,19 +14,21 @@ use Rattle.task.specs.Coming.{comes}
 use Rattle.task.specs.Turns.{delayEnds}
 use Rattle.task.proofs.Laws.{comes-parts}
 use Rattle.machine.specs.State.{mostTasks, taskAt}
-use Rattle.machine.specs.Running.{urgency, runningOf, runner}
+use Rattle.machine.specs.Running.{runningOf, runner}
 use Rattle.machine.specs.Test.{allBelow, valid}
 use Rattle.machine.specs.declared.State.{State}
 use Rattle.machine.specs.declared.Running.{Running}
-use Rattle.survey.specs.Looks.{nobody, taskOf, stirsNext, unfit, surveyed}
-use Rattle.survey.proofs.LeastLaws.{leastOf, canRun, Bounded, least-none, least-next, least-found}
+use Rattle.survey.specs.Leads.{nobody, noLead, against}
+use Rattle.survey.specs.Looks.{stirsNext, unfit, surveyed}
+use Rattle.survey.specs.declared.scan.Lead.{Lead}
+use Rattle.survey.proofs.LeadLaws.{led, canRun, led-none, led-who, led-more}
 use Rattle.survey.proofs.TestLaws.{fitAt, Upto, upto-none, upto-passes}
 
--- What the scan knows of the tasks below i: all are fit, whether one comes at x, and the least urgency of those that can run.
-pub record Looked (day : ℕ) (k : State) (x : Instant) (i : ℕ) (stirs : Bool) (least : ℕ) : Type 0 where
+-- What the scan knows of the tasks below i: all are fit, whether one comes at x, and who leads of those that can run.
+pub record Looked (day : ℕ) (k : State) (x : Instant) (i : ℕ) (stirs : Bool) (lead : Lead) : Type 0 where
   pub tasks : Upto (fitAt day k) (k .counts .tasks) i
   pub comings : stirs ≡ not (allBelow i (λ j. not (comes x (taskAt (k .tasks) j))))
-  pub nearest : least ≡ leastOf i (canRun (k .tasks)) (k .tasks)
+  pub leads : lead ≡ led i (canRun (k .tasks)) (k .tasks)
 
 -- One part of one task: e is what its test said, or it has no such part.
 pub stirs-more : {a b c d e : Bool} → b ≡ a → c ≡ (b || e) → e ≡ d → c ≡ (a || d)
@@ -37,23 +38,24 @@ pub stirs-same : {a b c d : Bool} → b ≡ a → c ≡ b → d ≡ false → c 
 stirs-same {a} p q r = q ∙ p ∙ rw (r, or-false a)
 
 module _ (day : ℕ) (k : State) (x : Instant) where
-  pub looked-none : Looked day k x 0 false nobody
+  pub looked-none : Looked day k x 0 false noLead
   unfolding allBelow
-  looked-none = record { tasks = upto-none _ _; comings = refl; nearest = sym (least-none _ _) }
+  looked-none = record { tasks = upto-none _ _; comings = refl; leads = sym (led-none _ _) }
 
-  module _ (b : Bounded (k .tasks)) (few : k .counts .tasks ≤ mostTasks) {i : ℕ} {stirs : Bool} {least : ℕ} (p : Looked day k x i stirs least) where
+  module _ {i : ℕ} {stirs : Bool} {lead : Lead} (p : Looked day k x i stirs lead) where
     pub looked-next :
-        i < k .counts .tasks → {some runs : Bool} {after : ℕ} → fitAt day k i ≡ true
+        i < k .counts .tasks → {some runs : Bool} {u : ℕ} {after : Lead} → fitAt day k i ≡ true
         → some ≡ (stirs || falls x (taskAt (k .tasks) i .schedule .alarm) || delayEnds x (taskAt (k .tasks) i .hold))
         → runs ≡ canRun (k .tasks) i
-        → after ≡ cond (runs && ltb (mostTasks * taskAt (k .tasks) i .current + i) least) (mostTasks * taskAt (k .tasks) i .current + i) least
+        → (u ≡ mostTasks * taskAt (k .tasks) i .current + i) × (u < nobody)
+        → after ≡ against lead runs u i
         → Looked day k x (i + 1) some after
-    unfolding allBelow urgency
-    looked-next less fits c r a =
+    unfolding allBelow
+    looked-next less fits c r v a =
         record {
           tasks = upto-passes (p .tasks) less fits;
           comings = c ∙ rw (add-one, p .comings, comes-parts x (taskAt (k .tasks) i)) (one (allBelow i _) _ _);
-          nearest = a ∙ rw (r, p .nearest) (sym (least-next (canRun (k .tasks)) (k .tasks) i b (omega arith)));
+          leads = led-more (canRun (k .tasks)) (k .tasks) i r v (p .leads) a;
         }
       where
         one : (a f d : Bool) → (not a || f || d) ≡ not (a && not (f || d))
@@ -70,9 +72,9 @@ module _ (day : ℕ) (k : State) (x : Instant) where
       unfolding stirsNext
       looked-stirs e = p .comings ∙ rw (last, e)
 
-      pub looked-runs : taskOf least ≡ runner k
+      pub looked-runs : lead .who ≡ runner k
       unfolding runningOf
-      looked-runs = rw (p .nearest, last) (least-found _ (k .tasks) b (k .counts .tasks) few)
+      looked-runs = rw (p .leads, last) (led-who (k .counts .tasks) (canRun (k .tasks)) (k .tasks))
 
 -- ---- the whole
 

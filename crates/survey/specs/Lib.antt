@@ -1,3 +1,4 @@
 -- Names for the contracts of this crate.
+pub mod Leads
 pub mod Looks
 pub mod Next

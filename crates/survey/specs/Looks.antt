@@ -1,7 +1,6 @@
 -- Names for contracts: what one look at a kernel tells.
 use mathlib.Core.Bool.{Bool, true, false, not, cond, _&&_}
-use Prim.Native.Nat.{ℕ, _%_}
-use lib.Dec.{leb}
+use Prim.Native.Nat.{ℕ}
 use Rattle.calendar.specs.Limits.{tick}
 use Rattle.calendar.specs.Times.{duration, plus}
 use Rattle.lock.specs.Locks.{waiting, grantable}
@@ -12,22 +11,13 @@ use Rattle.task.specs.Coming.{comes}
 use Rattle.task.specs.declared.Hold.{Hold}
 use Rattle.task.specs.declared.Task.{Task}
 use Rattle.machine.specs.Sets.{put}
-use Rattle.machine.specs.State.{mostTasks, taskAt}
+use Rattle.machine.specs.State.{taskAt}
 use Rattle.machine.specs.Running.{runner}
 use Rattle.machine.specs.Test.{allBelow, countsOk, holdOk, waitOk, valid}
 use Rattle.machine.specs.declared.Counts.{Counts}
 use Rattle.machine.specs.declared.State.{State}
-use Rattle.machine.specs.declared.Running.{Running}
-use Rattle.machine.specs.declared.Running.the-variants.{Idle, Runs}
+use Rattle.machine.specs.declared.Running.the-variants.{Idle}
 use Rattle.survey.specs.declared.Survey.{Survey}
-
--- More than the urgency of any task: 32 * 255 + 31 is the largest.
-abbrev pub nobody : ℕ
-nobody = 8192
-
--- The task that an urgency is of, or none.
-unfoldable pub taskOf : ℕ → Running
-taskOf u = cond (leb nobody u) Idle (Runs (u % mostTasks))
 
 -- The counts are in range, and each wait's list names one to four declared numbers, none twice.
 unfoldable pub waitsOk : State → Bool

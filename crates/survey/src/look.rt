@@ -11,10 +11,9 @@ use crate::check::is_busy_ok;
 use crate::check::is_kept_right;
 use crate::check::is_planned;
 use crate::check::is_schedule_ok;
-use crate::scan::NOBODY;
 use crate::scan::can_run;
-use crate::scan::nearest;
-use crate::scan::task_of;
+use crate::scan::no_lead;
+use crate::scan::urgency_of;
 use calendar::Duration;
 use calendar::LAST_INSTANT;
 use calendar::is_time_of_day;
@@ -45,7 +44,7 @@ pub fn survey(k: State) -> Survey
     let at = now.plus(Duration(1));
     let locks = k.locks;
     let mut stirs = false;
-    let mut least = NOBODY;
+    let mut lead = no_lead();
     for i in 0..n {
         let current = k.tasks[i].current;
         if !are_priorities(k.tasks[i].declared, current) {
@@ -86,12 +85,13 @@ pub fn survey(k: State) -> Survey
             stirs = stirs | hold.ends_at(at);
             runs = can_run(runs, wait, hold);
         }
-        least = nearest(least, runs, current, i);
+        lead = lead.against(runs, urgency_of(current, i), i);
     }
+    let runner = lead.who;
     Survey {
         ok: true,
         stirs,
-        runner: task_of(least),
+        runner,
     }
 }
 

@@ -1,13 +1,12 @@
-// The order of urgency, and the running task.
+// The order of urgency, who leads a scan, and the running task.
 ghost use mathlib.Core.Path.{_≡_};
-ghost use mathlib.Core.Bool.{not, cond, _&&_};
+ghost use mathlib.Core.Bool.{not, _&&_};
 ghost use Prim.Native.Nat.{_+_, _*_, _<_, min};
-ghost use lib.Dec.{ltb};
 ghost use Rattle.lock.specs.Locks.{waiting};
 ghost use Rattle.task.specs.State.{unheld};
 ghost use Rattle.machine.specs.State.{mostTasks};
 ghost use Rattle.machine.specs.Running.{runner};
-ghost use Rattle.survey.specs.Looks.{taskOf};
+ghost use Rattle.survey.specs.Leads.{nobody, noLead, against};
 use lock::Wait;
 use lock::is_waiting;
 use machine::Running;
@@ -18,6 +17,36 @@ const MOST_TASKS: usize = machine::MOST_TASKS as usize;
 
 // More than the urgency of any task: 32 * 255 + 31 is the largest.
 pub const NOBODY: u32 = 8192;
+
+// Who leads a scan, and how urgent that task is.
+pub struct Lead {
+    pub urgency: u32,
+    pub who: Running,
+}
+
+// Nobody leads.
+pub fn no_lead() -> Lead
+    ensures { λ r. ⌜ r ≡ noLead ⌝ }
+{
+    Lead {
+        urgency: NOBODY,
+        who: Running::Idle,
+    }
+}
+
+impl Lead {
+    // Task i is held against the lead, if it counts: the more urgent one leads.
+    pub fn against(self, counts: bool, urgency: u32, i: usize) -> Lead
+        requires { ⌜ i < mostTasks ⌝ }
+        ensures { λ r. ⌜ r ≡ against self counts urgency i ⌝ }
+    {
+        if counts & (urgency < self.urgency) {
+            let who = Running::Runs(i as u8);
+            return Lead { urgency, who };
+        }
+        self
+    }
+}
 
 // A count of tasks, but at most the places of the table.
 pub fn places(n: u8) -> usize
@@ -30,19 +59,9 @@ pub fn places(n: u8) -> usize
 // Current priority first, then task number; smaller is more urgent.
 pub fn urgency_of(current: u8, i: usize) -> u32
     requires { ⌜ i < mostTasks ⌝ }
-    ensures { λ r. ⌜ r ≡ mostTasks * current + i ⌝ }
+    ensures { λ r. ⌜ (r ≡ mostTasks * current + i) × (r < nobody) ⌝ }
 {
     32 * (current as u32) + i as u32
-}
-
-// The task of an urgency, or nobody.
-pub fn task_of(urgency: u32) -> Running
-    ensures { λ r. ⌜ r ≡ taskOf urgency ⌝ }
-{
-    if NOBODY <= urgency {
-        return Running::Idle;
-    }
-    Running::Runs((urgency % 32) as u8)
 }
 
 // Whether a task with this life, wait and hold is runnable.
@@ -58,31 +77,19 @@ pub fn can_run(alive: bool, wait: Wait, hold: Hold) -> bool
     hold.is_unheld()
 }
 
-// The least urgency so far, once task i has been looked at.
-pub fn nearest(least: u32, runs: bool, current: u8, i: usize) -> u32
-    requires { ⌜ i < mostTasks ⌝ }
-    ensures { λ r. ⌜ r ≡ cond (runs && ltb (mostTasks * current + i) least) (mostTasks * current + i) least ⌝ }
-{
-    if !runs {
-        return least;
-    }
-    let u = urgency_of(current, i);
-    if u < least { u } else { least }
-}
-
 // The running task: the most urgent runnable one, or none.
 pub fn running(k: State) -> Running
     ensures { λ r. ⌜ r ≡ runner k ⌝ }
 {
     let counts = k.counts;
     let n = places(counts.tasks);
-    let mut least = NOBODY;
+    let mut lead = no_lead();
     for i in 0..n {
         let t = k.tasks[i];
         let wait = t.wait;
         let hold = t.hold;
         let runs = can_run(k.tasks[i].alive, wait, hold);
-        least = nearest(least, runs, k.tasks[i].current, i);
+        lead = lead.against(runs, urgency_of(k.tasks[i].current, i), i);
     }
-    task_of(least)
+    lead.who
 }

@@ -32,20 +32,19 @@ use Rattle.machine.proofs.Facts.{task-untest}
 use Rattle.machine.proofs.Passed.{tested}
 use Rattle.machine.proofs.Turns.{good-tick}
 use Rattle.survey.proofs.KernelFacts.{Good, tasks-long}
-use Rattle.survey.proofs.LeastLaws.{bounds}
 use Rattle.serving.specs.Ends.{marksOf}
 use Rattle.calls.proofs.TurnCases.{sound}
-use Rattle.calls.proofs.EveryTask.{Made, made-none, made-all, made-more, made-still, task-now, withNow, every-idle, every-unserved, tick-early, tick-late}
+use Rattle.calls.proofs.EveryTask.{Made, made-none, made-all, made-more, made-still, every-idle, every-unserved, tick-early, tick-late}
 use Rattle.calls.proofs.TickRuns.{Led, led-idle, led-from, led-more, led-still, led-runs, runs-below, unstirred}
 use Rattle.calls.proofs.clock.ticked.Statement.{statement}
 use Rattle.calls.proofs.clock.ticked.Tie as tie
 
 abbrev Inv-loop : tie.InvT-loop
-Inv-loop k₀ n most m₀ least₀ i₀ k m least i =
-    (i ≤ most) × Made (tickTurn n) k₀ i k m × Led (k .tasks) (k₀ .counts .tasks) least
+Inv-loop k₀ n most m₀ lead₀ i₀ k m lead i =
+    (i ≤ most) × Made (tickTurn n) k₀ i k m × Led (k .tasks) (k₀ .counts .tasks) lead
 
 abbrev μ-loop : tie.MeasureT-loop
-μ-loop k₀ n most m₀ least₀ i₀ k m least i = most - i
+μ-loop k₀ n most m₀ lead₀ i₀ k m lead i = most - i
 
 -- ---- what is known on the way
 
@@ -80,7 +79,7 @@ runner-is p e = sym (start p .pre .1) ∙ e
 -- Where a task runs.
 below : (c : tie.After-known-told Inv-loop μ-loop) → c .before .r .given .0 .0 < mostTasks
 below c =
-    let p = c .before .before .before .before .before .before in
+    let p = c .before .before .before .before .before .before .before in
     let k = state p in
     omega (arith, runs-below (k .tasks) (k .counts .tasks) (c .before .r .given .0 .0) (runner-is p (c .before .r .given .1)), fits p)
 
@@ -89,25 +88,13 @@ abbrev I : Type 0
 I = tie.In-loop Inv-loop μ-loop
 
 abbrev passed : I → P
-passed c = c .before .before .before .before .before .before
+passed c = c .before .before .before .before .before .before .before
 
 inside : (c : I) → c .before .loop .i < mostTasks
 inside c = omega (arith, c .loop-test .taken, fits (passed c))
 
 less : (c : I) → c .before .loop .i < length (state (passed c) .tasks)
 less c = omega (arith, tasks-long (state (passed c)) (good (passed c)), inside c)
-
--- A turn keeps the priority of a task in its limits.
-in-range : (c : I) (u : Turn) → u ≡ tickTurn (moment (passed c)) (taskAt (c .before .loop .k .tasks) (c .before .loop .i)) → u .task .current < 256
-in-range c u e =
-    let p = passed c in
-    let k = state p in
-    let i = c .before .loop .i in
-    let t = taskAt (k .tasks) i in
-    let h = task-untest day (k .counts) t (all-at (k .counts .tasks) _ (sound day k (passes p) .tasks) i (c .loop-test .taken)) in
-    let q = good-tick day (k .counts) (moment p) t (in-time p) h .ok .current-ok in
-    let x = tickTurn (moment p) t .task .current in
-    rw (e, task-now (tickTurn (moment p)) k i (less c) (c .before .loop .inv .1)) (omega (arith, leb-true x 255 (both (leb 1 x) (leb x 255) q .1)))
 
 -- Once task i has had its turn, or has been passed over.
 abbrev J : Type 0
@@ -126,11 +113,11 @@ made c =
     let i = l .before .loop .i in
     let t = taskAt (l .before .loop .k .tasks) i in
     ⊎-elim
-    (λ w. made-more f k i (less l) (l .before .loop .inv .1) (w .2 .result) (w .2 .ensures) (w .7) (w .8 ∙ w .4 .ensures))
+    (λ w. made-more f k i (less l) (l .before .loop .inv .1) (w .2 .result) (w .2 .ensures) (w .8) (w .9 ∙ w .4 .ensures))
     (λ w. made-still f k i (less l) (l .before .loop .inv .1) (still n t (unstirred n t (sym (c .before .may-stir .ensures) ∙ w .0 .left))) (w .1) (w .2))
     (c .if2 .came)
 
-led : (c : J) → let l = here c in Led (c .if2 .k .tasks) (state (passed l) .counts .tasks) (c .if2 .least)
+led : (c : J) → let l = here c in Led (c .if2 .k .tasks) (state (passed l) .counts .tasks) (c .if2 .lead)
 led c =
     let l = here c in
     let p = passed l in
@@ -139,12 +126,12 @@ led c =
     ⊎-elim
     (λ w.
     led-more (moment p) (k .tasks) (state p .counts .tasks) (l .before .loop .i) (l .loop-test .taken) (fits p) (w .2 .result) (w .2 .ensures)
-    (in-range l (w .2 .result) (w .2 .ensures)) h (ap (λ (q : State). q .tasks) (w .7)) (w .5 .ensures) (w .9 ∙ w .6 .ensures))
+    h (ap (λ (q : State). q .tasks) (w .8)) (w .5 .ensures) (w .6 .ensures) (w .10 ∙ w .7 .ensures))
     (λ w. led-still h (ap (λ (q : State). q .tasks) (w .1)) (w .3))
     (c .if2 .came)
 
 -- Once all have.
-all : (c : tie.After-loop Inv-loop μ-loop) → let p = c .before .before .before .before .before .before in
+all : (c : tie.After-loop Inv-loop μ-loop) → let p = c .before .before .before .before .before .before .before in
     let k = state p in
     let w = everyTurn k (moment p) (tickTurn (moment p)) in
     (c .before .loop .k ≡ withState (w .tasks) (k .locks) (k .enabled) k) × (c .before .loop .m ≡ marksOf w)
@@ -177,8 +164,11 @@ plus-requires c κs = search needs
 cast-most : tie.Need-cast-most Inv-loop μ-loop
 cast-most c = search needs
 
-only-granted-requires : tie.Need-only-granted-requires Inv-loop μ-loop
-only-granted-requires c κs = search needs
+no-marks-requires : tie.Need-no-marks-requires Inv-loop μ-loop
+no-marks-requires c κs = search needs
+
+no-lead-requires : tie.Need-no-lead-requires Inv-loop μ-loop
+no-lead-requires c κs = search needs
 
 enum-known-r : tie.Need-enum-known-r Inv-loop μ-loop
 enum-known-r c = search needs
@@ -195,18 +185,22 @@ element-copy-out-urgency-of c = omega (arith, below c)
 urgency-of-requires : tie.Need-urgency-of-requires Inv-loop μ-loop
 urgency-of-requires c κs = below c
 
+against-requires : tie.Need-against-requires Inv-loop μ-loop
+against-requires c κs = below (c .before)
+
 enum-told : tie.Need-enum-told Inv-loop μ-loop
 enum-told c = search needs
 
 loop-holds : tie.Need-loop-holds Inv-loop μ-loop
 loop-holds c =
-    let p = c .before .before .before .before in
+    let o = c .before in
+    let p = o .before .before .before .before in
     let k = state p in (
       search needs,
-      rw (c .before .only-granted .ensures) (made-none _ _),
+      rw (o .before .no-marks .ensures) (made-none _ _),
       ⊎-elim
-          (λ w. led-from (k .tasks) (k .counts .tasks) (w .1 .given .0 .0) (bounds k (good p)) (runner-is p (w .1 .given .1)) (w .4 ∙ w .3 .ensures))
-          (λ w. led-idle (k .tasks) (k .counts .tasks) (bounds k (good p)) (runner-is p (w .1 .given .1)) (w .2))
+          (λ w. led-from (k .tasks) (k .counts .tasks) (w .1 .given .0 .0) (tasks-long k (good p)) (runner-is p (w .1 .given .1)) (w .3 .ensures) (o .no-lead .ensures) (w .5 ∙ w .4 .ensures))
+          (λ w. led-idle (k .tasks) (k .counts .tasks) (tasks-long k (good p)) (runner-is p (w .1 .given .1)) (w .2 ∙ o .no-lead .ensures))
           (c .match .came),
     )
 
@@ -240,8 +234,11 @@ marked-requires c κs = omega (arith, inside (c .before .before .before .before 
 is-runnable-requires : tie.Need-is-runnable-requires Inv-loop μ-loop
 is-runnable-requires c κs = search needs
 
-nearest-requires : tie.Need-nearest-requires Inv-loop μ-loop
-nearest-requires c κs = omega (arith, inside (c .before .before .before .before .before .before .before .before .before .before))
+urgency-of-requires-2 : tie.Need-urgency-of-requires-2 Inv-loop μ-loop
+urgency-of-requires-2 c κs = omega (arith, inside (c .before .before .before .before .before .before .before .before .before .before))
+
+against-requires-2 : tie.Need-against-requires-2 Inv-loop μ-loop
+against-requires-2 c κs = omega (arith, inside (c .before .before .before .before .before .before .before .before .before .before .before))
 
 add-i : tie.Need-add-i Inv-loop μ-loop
 add-i c = omega (arith, inside (here c))
@@ -252,8 +249,8 @@ loop-less c = search needs
 loop-again : tie.Need-loop-again Inv-loop μ-loop
 loop-again c = (search needs, made c, led c)
 
-task-of-requires : tie.Need-task-of-requires Inv-loop μ-loop
-task-of-requires c κs = search needs
+begun-at-requires : tie.Need-begun-at-requires Inv-loop μ-loop
+begun-at-requires c κs = search needs
 
 answer-of-requires : tie.Need-answer-of-requires Inv-loop μ-loop
 answer-of-requires c κs = search needs
@@ -261,13 +258,13 @@ answer-of-requires c κs = search needs
 returns-2 : tie.Need-returns-2 Inv-loop μ-loop
 returns-2 c =
     let a = c .before .before in
-    let p = a .before .before .before .before .before .before in
+    let p = a .before .before .before .before .before .before .before in
     let k = state p in
     let n = moment p in
     let w = all a in
-    let r = c .before .task-of .ensures ∙ led-runs (a .before .loop .inv .2) (fits p) ∙ ap (λ (q : State). runningOf (k .counts .tasks) (q .tasks)) (w .0) in
+    let r = led-runs (a .before .loop .inv .2) ∙ ap (λ (q : State). runningOf (k .counts .tasks) (q .tasks)) (w .0) in
     let idle = every-idle day k (passes p) (tasks-long k (good p)) n (tickTurn n) (λ t. no-wait-tick t n) in
-    λ d. rw (c .answer-of .ensures) (every-unserved k n (tickTurn n) (ap (withNow n) (w .0)) (w .1) idle r) ∙ accepted p d
+    λ d. rw (c .answer-of .ensures, c .before .begun-at .ensures) (every-unserved k n (tickTurn n) (w .0) (w .1) idle r) ∙ accepted p d
 
 pub ticked-spec : {M : Type 1} → statement M
 ticked-spec =
@@ -279,12 +276,14 @@ ticked-spec =
     returns
     plus-requires
     cast-most
-    only-granted-requires
+    no-marks-requires
+    no-lead-requires
     enum-known-r
     cast-at
     mul-urgency-of
     element-copy-out-urgency-of
     urgency-of-requires
+    against-requires
     enum-told
     loop-holds
     mul-t
@@ -297,10 +296,11 @@ ticked-spec =
     element-set-from-after
     marked-requires
     is-runnable-requires
-    nearest-requires
+    urgency-of-requires-2
+    against-requires-2
     add-i
     loop-less
     loop-again
-    task-of-requires
+    begun-at-requires
     answer-of-requires
     returns-2)

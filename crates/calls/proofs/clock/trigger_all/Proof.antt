@@ -23,11 +23,11 @@ abbrev μ-loop : tie.MeasureT-loop
 cast-most : tie.Need-cast-most Inv-loop μ-loop
 cast-most c = search needs
 
-only-granted-requires : tie.Need-only-granted-requires Inv-loop μ-loop
-only-granted-requires c κs = search needs
+no-marks-requires : tie.Need-no-marks-requires Inv-loop μ-loop
+no-marks-requires c κs = search needs
 
 loop-holds : tie.Need-loop-holds Inv-loop μ-loop
-loop-holds c = (search needs, rw (c .only-granted .ensures) (made-none _ _))
+loop-holds c = (search needs, rw (c .no-marks .ensures) (made-none _ _))
 
 mul-t : tie.Need-mul-t Inv-loop μ-loop
 mul-t c = search needs
@@ -83,7 +83,7 @@ trigger-all-spec =
     Inv-loop
     μ-loop
     cast-most
-    only-granted-requires
+    no-marks-requires
     loop-holds
     mul-t
     element-copy-out-t

@@ -38,7 +38,7 @@ returns c =
     let k = s .args .t1 in
     let w = c .before .before .trigger-all .ensures in
     c .finished .ensures
-    ∙ every-finish k (k .now) (triggerTurn day (k .clock) (k .now) (s .args .i)) (w .0) (w .1)
+    ∙ every-finish k (triggerTurn day (k .clock) (k .now) (s .args .i)) (w .0) (w .1)
     ∙ ap (finish k) (sym (trigger-on day k (s .args .i) (c .before .before .before .if1 .taken)))
 
 done-requires : tie.Need-done-requires

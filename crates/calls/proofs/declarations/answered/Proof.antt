@@ -1,12 +1,15 @@
--- The answer as written.
-use mathlib.Core.Path.{refl}
+-- The answer with empty sets.
+use borrow.Author.Needs.{needs}
 use Rattle.machine.specs.Step.{refuse}
 use Rattle.calls.proofs.declarations.answered.Statement.{statement}
 use Rattle.calls.proofs.declarations.answered.Tie as tie
 
+plain-requires : tie.Need-plain-requires
+plain-requires c κs = search needs
+
 returns : tie.Need-returns
 unfolding refuse
-returns c = refl
+returns c = rw (c .plain .ensures)
 
 pub answered-spec : {M : Type 1} → statement M
-answered-spec = tie.close (tie.spec returns)
+answered-spec = tie.close (tie.spec plain-requires returns)

@@ -125,24 +125,27 @@ add-if3 c = let e = eOf (c .before) in omega (arith, early (nOf e .before .befor
 plus-requires : tie.Need-plus-requires Inv-loop μ-loop
 plus-requires c κs = let e = eOf (c .before .before) in omega (arith, early (nOf e .before .before .loop .inv) (passes e))
 
+begun-at-requires : tie.Need-begun-at-requires Inv-loop μ-loop
+begun-at-requires c κs = search needs
+
 plain-requires-2 : tie.Need-plain-requires-2 Inv-loop μ-loop
 plain-requires-2 c κs = search needs
 
 line-at-requires-2 : tie.Need-line-at-requires-2 Inv-loop μ-loop
-line-at-requires-2 c κs = room (nOf (eOf (c .before .before .before .before .before)))
+line-at-requires-2 c κs = room (nOf (eOf (c .before .before .before .before .before .before)))
 
 loop-less-2 : tie.Need-loop-less-2 Inv-loop μ-loop
-loop-less-2 c = less (nOf (eOf (c .before .before .before .before .before .before .before .before)))
+loop-less-2 c = less (nOf (eOf (c .before .before .before .before .before .before .before .before .before)))
 
 loop-again-2 : tie.Need-loop-again-2 Inv-loop μ-loop
 loop-again-2 c =
     let a = c .before .before in
     let p = a .before .before in
-    let u = p .before in
+    let u = p .before .before in
     let j = u .before .before .before in
     let n = nOf (eOf j) in
     let x = both _ _ (u .before .if3 .taken) in
-    rw (u .plus .ensures)
+    rw (p .before .begun-at .ensures, u .plus .ensures)
     (moved (n .before .before .loop .inv) (n .end-of .result) (n .before .loop-test .taken) (n .end-of .ensures) (passes (eOf j)) (j .if2 .quiet) (quietly j)
     (sym (j .before .before .is-tick .ensures) ∙ x .0) (ltb-true _ _ (x .1)) (rw (p .plain2 .ensures) at (a .line-at2 .ensures .0))
     (a .line-at2 .ensures .1) (a .line-at2 .kept .1 .0))
@@ -198,6 +201,7 @@ run-spec =
     up-to-requires
     add-if3
     plus-requires
+    begun-at-requires
     plain-requires-2
     line-at-requires-2
     loop-less-2

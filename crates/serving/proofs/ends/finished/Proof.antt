@@ -10,19 +10,19 @@ use Rattle.machine.specs.Serving.{nextServed}
 use Rattle.machine.specs.Step.{finish}
 use Rattle.machine.specs.declared.Running.the-variants.{Idle}
 use Rattle.serving.specs.Ends.{served, servedOf}
-use Rattle.survey.proofs.KernelFacts.{Good}
-use Rattle.survey.proofs.LeastLaws.{leastOf, canRun, bounds, least-none, runs-next, least-runs}
+use Rattle.survey.proofs.KernelFacts.{Good, tasks-long}
+use Rattle.survey.proofs.LeadLaws.{led, canRun, led-none, led-more, led-runs}
 use Rattle.serving.proofs.WaitLaws.{tasks-fit}
 use Rattle.serving.proofs.ServeLaws.{NoneWaits, none-more, next-none, not-someone, served-idle}
 use Rattle.serving.proofs.ends.finished.Statement.{statement}
 use Rattle.serving.proofs.ends.finished.Tie as tie
 
 abbrev Inv-loop : tie.InvT-loop
-Inv-loop m k n least₀ waits₀ i₀ least waits i =
-    (i ≤ n) × (least ≡ leastOf i (canRun (k .tasks)) (k .tasks)) × (waits ≡ false → NoneWaits i (k .tasks))
+Inv-loop m k n lead₀ waits₀ i₀ lead waits i =
+    (i ≤ n) × (lead ≡ led i (canRun (k .tasks)) (k .tasks)) × (waits ≡ false → NoneWaits i (k .tasks))
 
 abbrev μ-loop : tie.MeasureT-loop
-μ-loop m k n least₀ waits₀ i₀ least waits i = n - i
+μ-loop m k n lead₀ waits₀ i₀ lead waits i = n - i
 
 good : (s : tie.Start Inv-loop μ-loop) → Good (s .args .t1)
 good s = (s .good .0 .0, s .good .0 .1 .1)
@@ -30,8 +30,11 @@ good s = (s .good .0 .0, s .good .0 .1 .1)
 places-requires : tie.Need-places-requires Inv-loop μ-loop
 places-requires c κs = search needs
 
+no-lead-requires : tie.Need-no-lead-requires Inv-loop μ-loop
+no-lead-requires c κs = search needs
+
 loop-holds : tie.Need-loop-holds Inv-loop μ-loop
-loop-holds c = (search needs, sym (least-none _ _), λ e j l. absurd (omega arith))
+loop-holds c = (search needs, c .no-lead .ensures ∙ sym (led-none _ _), λ e j l. absurd (omega arith))
 
 mul-t : tie.Need-mul-t Inv-loop μ-loop
 mul-t c = search needs
@@ -51,14 +54,17 @@ can-run-requires c κs = search needs
 is-waiting-requires : tie.Need-is-waiting-requires Inv-loop μ-loop
 is-waiting-requires c κs = search needs
 
-mul-nearest : tie.Need-mul-nearest Inv-loop μ-loop
-mul-nearest c = search needs
+mul-urgency-of : tie.Need-mul-urgency-of Inv-loop μ-loop
+mul-urgency-of c = search needs
 
-element-copy-out-nearest : tie.Need-element-copy-out-nearest Inv-loop μ-loop
-element-copy-out-nearest c = search needs
+element-copy-out-urgency-of : tie.Need-element-copy-out-urgency-of Inv-loop μ-loop
+element-copy-out-urgency-of c = search needs
 
-nearest-requires : tie.Need-nearest-requires Inv-loop μ-loop
-nearest-requires c κs = search needs
+urgency-of-requires : tie.Need-urgency-of-requires Inv-loop μ-loop
+urgency-of-requires c κs = search needs
+
+against-requires : tie.Need-against-requires Inv-loop μ-loop
+against-requires c κs = search needs
 
 add-i : tie.Need-add-i Inv-loop μ-loop
 add-i c = search needs
@@ -68,12 +74,12 @@ loop-less c = search needs
 
 loop-again : tie.Need-loop-again Inv-loop μ-loop
 loop-again c =
-    let l = c .before .before .before .before .before in
-    let s = l .before .before .before in
+    let l = c .before .before .before .before .before .before in
+    let s = l .before .before .before .before in
     let ts = s .args .t1 .tasks in (
       search needs,
-      runs-next ts (bounds (s .args .t1) (good s)) (l .loop .i) (omega arith) (c .before .before .can-run .ensures) (l .loop .inv .1) (c .nearest .ensures),
-      λ e. let w = neither (l .loop .waits) (c .before .is-waiting .result) e in none-more (l .loop .i) ts (l .loop .inv .2 (w .0)) (sym (c .before .is-waiting .ensures) ∙ w .1),
+      led-more (canRun ts) ts (l .loop .i) (c .before .before .before .can-run .ensures) (c .before .urgency-of .ensures) (l .loop .inv .1) (c .against .ensures),
+      λ e. let w = neither (l .loop .waits) (c .before .before .is-waiting .result) e in none-more (l .loop .i) ts (l .loop .inv .2 (w .0)) (sym (c .before .before .is-waiting .ensures) ∙ w .1),
     )
 
 next-served-requires : tie.Need-next-served-requires Inv-loop μ-loop
@@ -88,27 +94,31 @@ finished-serving-requires c κs = search needs
 returns : tie.Need-returns Inv-loop μ-loop
 returns c = search needs
 
-task-of-requires : tie.Need-task-of-requires Inv-loop μ-loop
-task-of-requires c κs = search needs
-
 -- Where the call ends without serving, there is nobody to serve.
-idle : (c : tie.Joined1 Inv-loop μ-loop) → let k = c .before .before .before .before .before .args .t1 in nextServed (k .counts .tasks) (served k 0) ≡ Idle
+idle : (c : tie.Joined1 Inv-loop μ-loop) → let k = c .before .before .before .before .before .before .args .t1 in nextServed (k .counts .tasks) (served k 0) ≡ Idle
 idle c =
     let l = c .before .before in
-    let s = l .before .before .before in
+    let s = l .before .before .before .before in
     let k = s .args .t1 in
     ⊎-elim (λ w. sym (w .1 .ensures) ∙ not-someone _ (sym (w .2 .ensures) ∙ w .3 .left))
-    (λ w. next-none k (λ j h. l .loop .inv .2 (w .left) j (omega (arith, tasks-fit k (s .pre), l .before .places .ensures, c .before .loop-test .left, h))))
+    (λ w. next-none k (λ j h. l .loop .inv .2 (w .left) j (omega (arith, tasks-fit k (s .pre), l .before .before .places .ensures, c .before .loop-test .left, h))))
     (c .if1 .came)
+
+begun-at-requires : tie.Need-begun-at-requires Inv-loop μ-loop
+begun-at-requires c κs = search needs
+
+answer-of-requires : tie.Need-answer-of-requires Inv-loop μ-loop
+answer-of-requires c κs = search needs
 
 returns-2 : tie.Need-returns-2 Inv-loop μ-loop
 unfolding finish servedOf
 returns-2 c =
-    let l = c .before .before .before in
-    let s = l .before .before .before in
+    let j = c .before .before .before in
+    let l = j .before .before in
+    let s = l .before .before .before .before in
     let k = s .args .t1 in
-    let r = least-runs (k .tasks) (bounds k (good s)) (k .counts .tasks) (l .loop .i) (l .before .places .ensures) (l .loop .inv .0) (c .before .before .loop-test .left) (l .loop .inv .1) in
-    rw (c .task-of .ensures, r, served-idle k (s .args .m .granted) (idle (c .before)))
+    let r = led-runs (k .tasks) (tasks-long k (good s)) (k .counts .tasks) (l .loop .i) (l .before .before .places .ensures) (l .loop .inv .0) (j .before .loop-test .left) (l .loop .inv .1) in
+    rw (c .answer-of .ensures, c .before .begun-at .ensures, r, served-idle k (s .args .m .granted) (idle j))
 
 pub finished-spec : {M : Type 1} → statement M
 finished-spec =
@@ -117,6 +127,7 @@ finished-spec =
     Inv-loop
     μ-loop
     places-requires
+    no-lead-requires
     loop-holds
     mul-t
     element-copy-out-t
@@ -124,9 +135,10 @@ finished-spec =
     element-copy-out-can-run
     can-run-requires
     is-waiting-requires
-    mul-nearest
-    element-copy-out-nearest
-    nearest-requires
+    mul-urgency-of
+    element-copy-out-urgency-of
+    urgency-of-requires
+    against-requires
     add-i
     loop-less
     loop-again
@@ -134,5 +146,6 @@ finished-spec =
     is-someone-requires
     finished-serving-requires
     returns
-    task-of-requires
+    begun-at-requires
+    answer-of-requires
     returns-2)

@@ -11,9 +11,18 @@ serve-requires c κs = search needs
 running-requires : tie.Need-running-requires
 running-requires c κs = search needs
 
+begun-at-requires : tie.Need-begun-at-requires
+begun-at-requires c κs = search needs
+
+answer-of-requires : tie.Need-answer-of-requires
+answer-of-requires c κs = search needs
+
 returns : tie.Need-returns
 unfolding finish servedOf
-returns c = let e = c .before .before .serve .ensures in rw (c .running .ensures, e .0, e .1)
+returns c =
+    let b = c .before in
+    let e = b .before .before .before .serve .ensures in
+    rw (c .answer-of .ensures, b .begun-at .ensures, b .before .running .ensures, e .0, e .1)
 
 pub finished-serving-spec : {M : Type 1} → statement M
-finished-serving-spec = tie.close (tie.spec serve-requires running-requires returns)
+finished-serving-spec = tie.close (tie.spec serve-requires running-requires begun-at-requires answer-of-requires returns)

@@ -1,9 +1,9 @@
--- The least urgency so far is that of the most urgent task so far that could be granted.
+-- The lead so far is that of the most urgent task so far that could be granted.
 use borrow.Author.Needs.{needs}
 use borrow.Author.Tests.{not-true, not-false}
 use mathlib.Core.Path.{_≡_, refl, sym, _∙_, ap}
-use mathlib.Core.Bool.{Bool, true}
-use Prim.Native.Nat.{ℕ, _≤_, _<_, _-_}
+use mathlib.Core.Bool.{Bool, true, false}
+use Prim.Native.Nat.{ℕ, _+_, _≤_, _<_, _-_}
 use native.Mathlib.Nat.{le-antisymm}
 use native.Mathlib.Omega.{arith}
 use Rattle.lock.specs.Locks.{waiting, free}
@@ -11,11 +11,9 @@ use Rattle.lock.proofs.Rests.{Named, Passed, number-below, fails-here, passes-h
 use Rattle.task.specs.declared.Task.{Task}
 use Rattle.machine.specs.State.{mostTasks, taskAt}
 use Rattle.machine.specs.Granting.{servable}
-use Rattle.machine.specs.Running.{urgency}
 use Rattle.machine.specs.declared.State.{State}
-use Rattle.survey.specs.Looks.{taskOf}
 use Rattle.survey.proofs.KernelFacts.{Good, list-long}
-use Rattle.survey.proofs.LeastLaws.{leastOf, Bounded, bounds, least-none, least-passed, least-taken, least-left, least-found}
+use Rattle.survey.proofs.LeadLaws.{led, led-none, led-more, led-passed, led-who, against-later}
 use Rattle.serving.proofs.WaitLaws.{Listed, tasks-fit, listed, servable-idle, servable-as}
 use Rattle.serving.proofs.ends.next_served.Statement.{statement}
 use Rattle.serving.proofs.ends.next_served.Tie as tie
@@ -24,16 +22,16 @@ abbrev canServe : State → ℕ → Bool
 canServe k = servable (k .counts .tasks) (k .tasks) (k .locks)
 
 abbrev Inv-loop : tie.InvT-loop
-Inv-loop k n locks least i₀ wait u m list j₀ i j = (i ≡ i₀) × Passed (free wait locks) list m j
+Inv-loop k n locks lead i₀ wait u m list j₀ i j = (i ≡ i₀) × Passed (free wait locks) list m j
 
 abbrev μ-loop : tie.MeasureT-loop
-μ-loop k n locks least i₀ wait u m list j₀ i j = m - j
+μ-loop k n locks lead i₀ wait u m list j₀ i j = m - j
 
 abbrev Inv-tasks : tie.InvT-tasks
-Inv-tasks k n locks least₀ i₀ least i = (i ≤ n) × (least ≡ leastOf i (canServe k) (k .tasks))
+Inv-tasks k n locks lead₀ i₀ lead i = (i ≤ n) × (lead ≡ led i (canServe k) (k .tasks))
 
 abbrev μ-tasks : tie.MeasureT-tasks
-μ-tasks k n locks least₀ i₀ least i = n - i
+μ-tasks k n locks lead₀ i₀ lead i = n - i
 
 -- ---- a task of the scan
 
@@ -41,7 +39,7 @@ abbrev T : Type 0
 T = tie.In-tasks Inv-loop μ-loop Inv-tasks μ-tasks
 
 abbrev kOf : T → State
-kOf c = c .before .before .before .before .before .args .t1
+kOf c = c .before .before .before .before .before .before .args .t1
 
 abbrev iOf : T → ℕ
 iOf c = c .before .tasks .i
@@ -52,21 +50,22 @@ tOf c = taskAt (kOf c .tasks) (iOf c)
 good : (s : tie.Start Inv-loop μ-loop Inv-tasks μ-tasks) → Good (s .args .t1)
 good s = (s .good .0 .0, s .good .0 .1 .1)
 
-fits : (c : T) → Bounded (kOf c .tasks)
-fits c = bounds (kOf c) (good (c .before .before .before .before .before))
-
 placed : (c : T) → iOf c < mostTasks
-placed c = omega (arith, c .tasks-test .taken, tasks-fit (kOf c) (c .before .before .before .before .before .pre))
+placed c = omega (arith, c .tasks-test .taken, tasks-fit (kOf c) (c .before .before .before .before .before .before .pre))
 
 list : (c : T) → waiting (tOf c .wait) ≡ true → Listed (tOf c)
-list c = listed (kOf c) (c .before .before .before .before .before .pre) (iOf c) (c .tasks-test .taken)
+list c = listed (kOf c) (c .before .before .before .before .before .before .pre) (iOf c) (c .tasks-test .taken)
 
 named : (c : T) → waiting (tOf c .wait) ≡ true → Named (tOf c .list) (tOf c .len)
 named c w =
     record {
-      short = omega (arith, list c w .short, list-long (kOf c) (good (c .before .before .before .before .before)) (iOf c) w);
+      short = omega (arith, list c w .short, list-long (kOf c) (good (c .before .before .before .before .before .before)) (iOf c) w);
       below = list c w .below;
     }
+
+-- A task that could not be granted is passed over.
+passed : (c : T) → canServe (kOf c) (iOf c) ≡ false → c .before .tasks .lead ≡ led (iOf c + 1) (canServe (kOf c)) (kOf c .tasks)
+passed c e = c .before .tasks .inv .1 ∙ sym (led-passed (canServe (kOf c)) (kOf c .tasks) (iOf c) e)
 
 -- ---- one that waits, and is more urgent than those found
 
@@ -74,10 +73,10 @@ abbrev P : Type 0
 P = tie.Else2 Inv-loop μ-loop Inv-tasks μ-tasks
 
 abbrev inP : P → T
-inP c = c .before .before .before .before .before
+inP c = c .before .before .before .before .before .before
 
 waits : (c : P) → waiting (tOf (inP c) .wait) ≡ true
-waits c = sym (c .before .before .before .is-waiting .ensures) ∙ not-false (c .before .before .before .is-waiting .result) (c .before .before .if1 .left)
+waits c = let w = c .before .before .before in sym (w .before .is-waiting .ensures) ∙ not-false (w .before .is-waiting .result) (w .if1 .left)
 
 short : (c : P) → tOf (inP c) .len ≤ 4
 short c = list (inP c) (waits c) .short
@@ -87,8 +86,11 @@ short c = list (inP c) (waits c) .short
 cast-n : tie.Need-cast-n Inv-loop μ-loop Inv-tasks μ-tasks
 cast-n c = search needs
 
+no-lead-requires : tie.Need-no-lead-requires Inv-loop μ-loop Inv-tasks μ-tasks
+no-lead-requires c κs = search needs
+
 tasks-holds : tie.Need-tasks-holds Inv-loop μ-loop Inv-tasks μ-tasks
-tasks-holds c = (search needs, sym (least-none _ _))
+tasks-holds c = (search needs, c .no-lead .ensures ∙ sym (led-none _ _))
 
 mul-t : tie.Need-mul-t Inv-loop μ-loop Inv-tasks μ-tasks
 mul-t c = omega (arith, placed c)
@@ -109,7 +111,7 @@ tasks-again : tie.Need-tasks-again Inv-loop μ-loop Inv-tasks μ-tasks
 tasks-again c =
     let d = c .before .before .before in
     let e = sym (c .before .is-waiting .ensures) ∙ not-true (c .before .is-waiting .result) (c .if1 .taken) in
-    (search needs, d .before .tasks .inv .1 ∙ sym (least-passed (canServe (kOf d)) (kOf d .tasks) (iOf d) (fits d) (placed d) (servable-idle _ (kOf d .tasks) (kOf d .locks) (iOf d) e)))
+    (search needs, passed d (servable-idle _ (kOf d .tasks) (kOf d .locks) (iOf d) e))
 
 mul-urgency-of : tie.Need-mul-urgency-of Inv-loop μ-loop Inv-tasks μ-tasks
 mul-urgency-of c = omega (arith, placed (c .before .before .before))
@@ -121,17 +123,17 @@ urgency-of-requires : tie.Need-urgency-of-requires Inv-loop μ-loop Inv-tasks μ
 urgency-of-requires c κs = placed (c .before .before .before)
 
 add-i-2 : tie.Need-add-i-2 Inv-loop μ-loop Inv-tasks μ-tasks
-add-i-2 c = omega (arith, placed (c .before .before .before .before .before))
+add-i-2 c = omega (arith, placed (c .before .before .before .before .before .before))
 
 tasks-less-2 : tie.Need-tasks-less-2 Inv-loop μ-loop Inv-tasks μ-tasks
 tasks-less-2 c = search needs
 
 tasks-again-2 : tie.Need-tasks-again-2 Inv-loop μ-loop Inv-tasks μ-tasks
-unfolding urgency
 tasks-again-2 c =
-    let d = c .before .before .before .before .before in
-    let v = d .before .tasks .inv .1 in
-    (search needs, v ∙ sym (least-left (canServe (kOf d)) (kOf d .tasks) (iOf d) (fits d) (placed d) (omega (arith, v, c .before .urgency-of .ensures, c .if2 .taken))))
+    let u = c .before .before .urgency-of in
+    let d = c .before .before .before .before .before .before in
+    let l = d .before .tasks in
+    (search needs, led-more (canServe (kOf d)) (kOf d .tasks) (iOf d) refl (u .ensures) (l .inv .1) (sym (against-later (l .lead) _ (u .result) (iOf d) (c .if2 .taken))))
 
 mul-m : tie.Need-mul-m Inv-loop μ-loop Inv-tasks μ-tasks
 mul-m c = omega (arith, placed (inP c))
@@ -181,7 +183,7 @@ tasks-again-3 c =
     let l = c .before .before .before in
     let d = inP (atP l) in
     let e = servable-as _ (kOf d .tasks) (kOf d .locks) (iOf d) (waits (atP l)) ∙ sym (fails-here (l .loop .inv .1) (c .before .before .loop-test .taken) (c .before .can-move .ensures) (c .if3 .taken)) in
-    (omega (arith, d .tasks-test .taken, l .loop .inv .0), rw (l .loop .inv .0) (d .before .tasks .inv .1 ∙ sym (least-passed (canServe (kOf d)) (kOf d .tasks) (iOf d) (fits d) (placed d) e)))
+    (omega (arith, d .tasks-test .taken, l .loop .inv .0), rw (l .loop .inv .0) (passed d e))
 
 add-j : tie.Need-add-j Inv-loop μ-loop Inv-tasks μ-tasks
 add-j c = omega (arith, short (atP (c .before .before .before)), c .before .before .loop-test .taken)
@@ -194,32 +196,28 @@ loop-again c =
     let l = c .before .before .before .loop in
     (l .inv .0, passes-here (l .inv .1) (c .before .before .loop-test .taken) (c .before .can-move .ensures) (c .if3 .left))
 
+against-requires : tie.Need-against-requires Inv-loop μ-loop Inv-tasks μ-tasks
+against-requires c κs = omega (arith, placed (inP (atP (c .before))), c .before .loop .inv .0)
+
 add-i-4 : tie.Need-add-i-4 Inv-loop μ-loop Inv-tasks μ-tasks
-add-i-4 c = omega (arith, placed (inP (atP (c .before))), c .before .loop .inv .0)
+add-i-4 c = let l = c .before .before in omega (arith, placed (inP (atP l)), l .loop .inv .0)
 
 tasks-less-4 : tie.Need-tasks-less-4 Inv-loop μ-loop Inv-tasks μ-tasks
-tasks-less-4 c = omega (arith, inP (atP (c .before)) .tasks-test .taken, c .before .loop .inv .0)
+tasks-less-4 c = let l = c .before .before in omega (arith, inP (atP l) .tasks-test .taken, l .loop .inv .0)
 
 tasks-again-4 : tie.Need-tasks-again-4 Inv-loop μ-loop Inv-tasks μ-tasks
-unfolding urgency
 tasks-again-4 c =
-    let p = atP (c .before) in
+    let p = atP (c .before .before) in
     let d = inP p in
-    let l = c .before .loop in
-    let e = servable-as _ (kOf d .tasks) (kOf d .locks) (iOf d) (waits p) ∙ sym (all-pass (l .inv .1) (c .loop-test .left)) in
-    let u = p .before .urgency-of .ensures in
-    (omega (arith, d .tasks-test .taken, l .inv .0), rw (l .inv .0) (u ∙ sym (least-taken (canServe (kOf d)) (kOf d .tasks) (iOf d) (fits d) (placed d) e (omega (arith, d .before .tasks .inv .1, u, p .if2 .left)))))
-
-task-of-requires : tie.Need-task-of-requires Inv-loop μ-loop Inv-tasks μ-tasks
-task-of-requires c κs = search needs
+    let l = c .before .before .loop in
+    let e = servable-as _ (kOf d .tasks) (kOf d .locks) (iOf d) (waits p) ∙ sym (all-pass (l .inv .1) (c .before .loop-test .left)) in
+    (omega (arith, d .tasks-test .taken, l .inv .0), rw (l .inv .0) (led-more (canServe (kOf d)) (kOf d .tasks) (iOf d) (sym e) (p .before .before .urgency-of .ensures) (d .before .tasks .inv .1) (rw (l .inv .0) at (c .against .ensures))))
 
 returns : tie.Need-returns Inv-loop μ-loop Inv-tasks μ-tasks
 returns c =
-    let s = c .before .before .before .before .before .before in
-    let k = s .args .t1 in
-    let l = c .before .before .tasks in
-    c .task-of .ensures ∙ ap taskOf (l .inv .1 ∙ ap (λ (x : ℕ). leastOf x (canServe k) (k .tasks)) (le-antisymm (l .inv .0) (c .before .tasks-test .left)))
-    ∙ least-found (canServe k) (k .tasks) (bounds k (good s)) (k .counts .tasks) (tasks-fit k (s .pre))
+    let l = c .before .tasks in
+    let k = c .before .before .before .before .before .before .args .t1 in
+    rw (l .inv .1, le-antisymm (l .inv .0) (c .tasks-test .left)) (led-who (k .counts .tasks) (canServe k) (k .tasks))
 
 pub next-served-spec : {M : Type 1} → statement M
 next-served-spec =
@@ -230,6 +228,7 @@ next-served-spec =
     Inv-tasks
     μ-tasks
     cast-n
+    no-lead-requires
     tasks-holds
     mul-t
     element-copy-out-t
@@ -258,8 +257,8 @@ next-served-spec =
     add-j
     loop-less
     loop-again
+    against-requires
     add-i-4
     tasks-less-4
     tasks-again-4
-    task-of-requires
     returns)

@@ -16,7 +16,7 @@ use Rattle.machine.specs.Test.{isPriority, scheduleOk, allBelow, countsOk, vali
 use Rattle.machine.specs.declared.State.{State}
 use Rattle.survey.specs.Looks.{unfit, surveyed}
 use Rattle.survey.proofs.Owned.{Owned}
-use Rattle.survey.proofs.LeastLaws.{canRun, bounds}
+use Rattle.survey.proofs.LeadLaws.{canRun}
 use Rattle.survey.proofs.TaskFit.{plan-none, falls-none, Starts, start-none, start-kept, eased, eased-runs, odd-priority, odd-schedule, odd-kept, odd-busy, fit-eased, fit-busy}
 use Rattle.survey.proofs.TestLaws.{fitAt, upto-fails, upto-all, out-of-range, timely, counted, tasks-fit, all-fit}
 use Rattle.survey.proofs.Surveying.{Looked, stirs-more, stirs-same, looked-none, looked-next, looked-stirs, looked-runs, unfit-is, fit-is}
@@ -24,10 +24,10 @@ use Rattle.survey.proofs.look.survey.Statement.{statement}
 use Rattle.survey.proofs.look.survey.Tie as tie
 
 abbrev Inv-loop : tie.InvT-loop
-Inv-loop k counts n x locks stirs₀ least₀ i₀ stirs least i = Looked day k x i stirs least
+Inv-loop k counts n x locks stirs₀ lead₀ i₀ stirs lead i = Looked day k x i stirs lead
 
 abbrev μ-loop : tie.MeasureT-loop
-μ-loop k counts n x locks stirs₀ least₀ i₀ stirs least i = n - i
+μ-loop k counts n x locks stirs₀ lead₀ i₀ stirs lead i = n - i
 
 -- ---- what is known on the way
 
@@ -53,7 +53,7 @@ abbrev I : Type 0
 I = tie.In-loop Inv-loop μ-loop
 
 abbrev passed : I → P
-passed c = c .before .before .before .before .before
+passed c = c .before .before .before .before .before .before
 
 abbrev one : I → Task
 one c = taskAt (state (passed c) .tasks) (c .before .loop .i)
@@ -63,7 +63,7 @@ room c = omega (arith, few (passed c), c .loop-test .taken)
 
 -- The instant of the next tick.
 abbrev moment : I → Instant
-moment c = c .before .before .before .plus .result
+moment c = c .before .before .before .before .plus .result
 
 -- A task that isn't fit ends the look.
 ends : (c : I) → fitAt day (state (passed c)) (c .before .loop .i) ≡ false → unfit ≡ surveyed day (state (passed c))
@@ -167,8 +167,11 @@ plus-requires c κs =
     let r = c .before .before in
     omega (arith, timely day (state (c .before)) (r .before .is-time-of-day .ensures) (r .are-counts-ok .ensures) (c .before .if1 .left))
 
+no-lead-requires : tie.Need-no-lead-requires Inv-loop μ-loop
+no-lead-requires c κs = search needs
+
 loop-holds : tie.Need-loop-holds Inv-loop μ-loop
-loop-holds c = looked-none day _ _
+loop-holds c = rw (c .no-lead .ensures) (looked-none day _ _)
 
 mul-current : tie.Need-mul-current Inv-loop μ-loop
 mul-current c = omega (arith, room c)
@@ -309,36 +312,36 @@ ends-at-requires c κs = search needs
 can-run-requires : tie.Need-can-run-requires Inv-loop μ-loop
 can-run-requires c κs = search needs
 
-nearest-requires : tie.Need-nearest-requires Inv-loop μ-loop
-nearest-requires c κs = room (turn (started c))
+urgency-of-requires : tie.Need-urgency-of-requires Inv-loop μ-loop
+urgency-of-requires c κs = room (turn (started c))
+
+against-requires : tie.Need-against-requires Inv-loop μ-loop
+against-requires c κs = room (turn (started (c .before)))
 
 add-i : tie.Need-add-i Inv-loop μ-loop
-add-i c = omega (arith, room (turn (started (c .before))))
+add-i c = omega (arith, room (turn (started (c .before .before))))
 
 loop-less : tie.Need-loop-less Inv-loop μ-loop
 loop-less c =
-    let i = turn (started (c .before)) in
+    let i = turn (started (c .before .before)) in
     omega (arith, i .loop-test .taken)
 
 loop-again : tie.Need-loop-again Inv-loop μ-loop
 loop-again c =
-    let t = c .before in
+    let t = c .before .before in
     let i = turn (started t) in
     let k = state (passed i) in
-    looked-next day k (moment i) (bounds k (good (passed i))) (few (passed i)) (i .before .loop .inv) (i .loop-test .taken)
-    (fits t) (stirring t) (running t) (c .nearest .ensures)
-
-task-of-requires : tie.Need-task-of-requires Inv-loop μ-loop
-task-of-requires c κs = search needs
+    looked-next day k (moment i) (i .before .loop .inv) (i .loop-test .taken)
+    (fits t) (stirring t) (running t) (c .before .urgency-of .ensures) (c .against .ensures)
 
 returns-6 : tie.Need-returns-6 Inv-loop μ-loop
 returns-6 c =
-    let l = c .before .before in
-    let p = l .before .before .before .before in
+    let l = c .before in
+    let p = l .before .before .before .before .before in
     let k = state p in
-    fit-is day k (upto-all (l .loop .inv .tasks) (c .before .loop-test .left) ∙ all p)
-    (looked-stirs day k _ (bounds k (good p)) (few p) (l .loop .inv) (c .before .loop-test .left) (l .before .before .plus .ensures))
-    (c .task-of .ensures ∙ looked-runs day k _ (bounds k (good p)) (few p) (l .loop .inv) (c .before .loop-test .left))
+    fit-is day k (upto-all (l .loop .inv .tasks) (c .loop-test .left) ∙ all p)
+    (looked-stirs day k _ (l .loop .inv) (c .loop-test .left) (l .before .before .before .plus .ensures))
+    (looked-runs day k _ (l .loop .inv) (c .loop-test .left))
 
 pub survey-spec : {M : Type 1} → statement M
 survey-spec =
@@ -352,6 +355,7 @@ survey-spec =
     returns
     cast-n
     plus-requires
+    no-lead-requires
     loop-holds
     mul-current
     element-copy-out-current
@@ -391,9 +395,9 @@ survey-spec =
     returns-5
     ends-at-requires
     can-run-requires
-    nearest-requires
+    urgency-of-requires
+    against-requires
     add-i
     loop-less
     loop-again
-    task-of-requires
     returns-6)

@@ -1,0 +1,23 @@
+-- Who leads a scan of the tasks, and how urgent that task is.
+use mathlib.Core.Bool.{Bool, cond, _&&_}
+use Prim.Native.Nat.{ℕ}
+use lib.Dec.{ltb}
+use Rattle.machine.specs.declared.Running.{Running}
+use Rattle.machine.specs.declared.Running.the-variants.{Idle, Runs}
+use Rattle.survey.specs.declared.scan.Lead.{Lead}
+
+-- More than the urgency of any task: 32 * 255 + 31 is the largest.
+abbrev pub nobody : ℕ
+nobody = 8192
+
+abbrev pub noLead : Lead
+noLead = record { urgency = nobody; who = Idle }
+
+-- The lead of whom a scan has found, by the urgencies u.
+unfoldable pub leadOf : (ℕ → ℕ) → Running → Lead
+leadOf u Idle = noLead
+leadOf u (Runs i) = record { urgency = u i; who = Runs i }
+
+-- A task i of urgency u is held against the lead, if it counts.
+unfoldable pub against : Lead → Bool → ℕ → ℕ → Lead
+against l counts u i = cond (counts && ltb u (l .urgency)) (record { urgency = u; who = Runs i }) l
