@@ -20,12 +20,12 @@ use Rattle.machine.specs.declared.Running.the-variants.{Idle}
 use Rattle.machine.specs.State.{taskAt, freshTask}
 use Rattle.machine.specs.Running.{runningOf, runner}
 use Rattle.machine.specs.Step.{step}
-use Rattle.machine.specs.Log.{final, log}
+use Rattle.machine.specs.Log.{isDeclaration, final, log}
 use Rattle.machine.specs.Invariants.{IsDay}
 use Rattle.machine.proofs.Below.{mostUrgent-none}
 use Rattle.machine.proofs.Facts.{StateOk, passes-of-ok, ok-of-passes}
 use Rattle.balance.specs.Counting.{count, accepted, namesOf, noNames, returned, Asking, askedAfter, grants, Open, noneOpen, asksNow, openAt, openAfter, GrantsOpen, openFrom}
-use Rattle.balance.specs.Fresh.{AllOctets, declaration, acceptedDeclaration, without}
+use Rattle.balance.specs.Fresh.{AllOctets, acceptedDeclaration, without}
 use Rattle.balance.specs.Balance.{RightStep, AtEachRecord, Balance}
 use Rattle.balance.proofs.Steps.{Invariant, StepBooks, step-books}
 
@@ -73,7 +73,7 @@ module _ (day : ℕ) (isDay : IsDay day) where
       }
   booked (r ∷ rs) k last was h o q =
       let z = step day k r .state in
-      let p = both (not (accepted (step day k r .answer) && declaration (opened r .answer))) (without acceptedDeclaration (log day z rs)) q in
+      let p = both (not (accepted (step day k r .answer) && isDeclaration (opened r .answer))) (without acceptedDeclaration (log day z rs)) q in
       let d = step-books day isDay k last was h r (o .0) (p .0) in
       let ih = booked rs z _ _ (d .next) (o .1) (p .1) in
       record {

@@ -16,7 +16,7 @@ use Rattle.machine.specs.declared.Stepped.{Stepped}
 use Rattle.machine.specs.Running.{runner}
 use Rattle.machine.specs.Sorts.{declares}
 use Rattle.machine.specs.Step.{refuse, finish, orRefuse, carryOut, carryOn, step}
-use Rattle.machine.specs.Log.{log}
+use Rattle.machine.specs.Log.{isDeclaration, log}
 use Rattle.machine.specs.Invariants.{IsDay}
 use Rattle.machine.proofs.Facts.{StateOk, passes-of-ok}
 use Rattle.machine.proofs.Passed.{refusalOf, passed}
@@ -24,7 +24,7 @@ use Rattle.machine.proofs.Opened.{opened-refused}
 use Rattle.machine.proofs.Cases.{done-number, carried-by, stepOpened, step-on}
 use Rattle.machine.proofs.Invariants.{step-ok}
 use Rattle.balance.specs.Counting.{accepted}
-use Rattle.balance.specs.Fresh.{AllOctets, declaration, acceptedDeclaration, without}
+use Rattle.balance.specs.Fresh.{AllOctets, acceptedDeclaration, without}
 
 -- What a step says of the first accepted call; d: its record is a declaration.
 pub record Begins (k : State) (d : Bool) (s : Stepped) : Type 0 where
@@ -56,10 +56,10 @@ module _ (day : ℕ) (k : State) (h : StateOk day k) where
             record { begins = λ z. begun; goes-on = λ b. begun; late = λ b. rw (done-number day k c, d) })
         go (suc n) e = refused-begins k _ n
 
-  pub step-begins : (s : List ℕ) → Begins k (declaration (opened s .answer)) (step day k s)
+  pub step-begins : (s : List ℕ) → Begins k (isDeclaration (opened s .answer)) (step day k s)
   step-begins s = rw (step-on day k s (passes-of-ok day k h .tested)) (go (opened s .answer) refl)
     where
-      go : (r : Read) → opened s .answer ≡ r → Begins k (declaration r) (stepOpened day k r (opened s .list))
+      go : (r : Read) → opened s .answer ≡ r → Begins k (isDeclaration r) (stepOpened day k r (opened s .list))
       go (Refused n) e = rw (opened-refused s n e) (refused-begins k false 1)
       go (Accepted d) e = carried-begins (callWith d (opened s .list))
 

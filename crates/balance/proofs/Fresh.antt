@@ -23,7 +23,7 @@ use Rattle.machine.specs.Running.{runner}
 use Rattle.machine.specs.Sorts.{declares}
 use Rattle.machine.specs.Calls.{addTask, addSemaphore, addBolt, addInterrupt, declaration as declaredAs}
 use Rattle.machine.specs.Step.{refuse, declared, orRefuse, carryOut, step}
-use Rattle.machine.specs.Log.{final, log}
+use Rattle.machine.specs.Log.{isDeclaration, final, log}
 use Rattle.machine.specs.Invariants.{IsDay}
 use Rattle.machine.proofs.Facts.{StateOk, bounded-of, passes-of-ok}
 use Rattle.machine.proofs.Passed.{refusalOf, Passed, passed, as-mark, room-task, room-bolt, room-interrupt}
@@ -31,7 +31,7 @@ use Rattle.machine.proofs.Opened.{opened-refused}
 use Rattle.machine.proofs.Cases.{done-number, declaration-cases, carried-by, stepOpened, step-on}
 use Rattle.machine.proofs.Invariants.{step-ok}
 use Rattle.balance.specs.Counting.{accepted}
-use Rattle.balance.specs.Fresh.{AllOctets, declaration, acceptedCall, without, DeclaredIsFresh}
+use Rattle.balance.specs.Fresh.{AllOctets, acceptedCall, without, DeclaredIsFresh}
 
 -- A kernel whose declared places are as their declarations left them.
 record Young (k : State) : Type 0 where
@@ -106,7 +106,7 @@ module _ (day : ℕ) (k : State) (h : StateOk day k) (y : Young k) (c : Call) wh
 module _ (day : ℕ) (k : State) (h : StateOk day k) (s : List ℕ) (P : Read → Stepped → Type 0)
     (refused : (r : Read) (n : ℕ) → P r (refuse k (suc n) (runner k)))
     (done : (d : Head) (l : List ℕ) → Passed day (d .mark) k (callWith d l) → P (Accepted d) (declared k (declaredAs (d .mark) (callWith d l) k))) where
-  pub no-call : not (accepted (step day k s .answer) && not (declaration (opened s .answer))) ≡ true → P (opened s .answer) (step day k s)
+  pub no-call : not (accepted (step day k s .answer) && not (isDeclaration (opened s .answer))) ≡ true → P (opened s .answer) (step day k s)
   no-call q = rw on (go (opened s .answer) refl (rw on at q))
     where
       on : step day k s ≡ stepOpened day k (opened s .answer) (opened s .list)
@@ -120,12 +120,12 @@ module _ (day : ℕ) (k : State) (h : StateOk day k) (s : List ℕ) (P : Read �
           byBool (declares (d .mark)) (λ m. unfold carryOut in rw m (done d (opened s .list) (passed day k c e))) (λ m. contra z (rw (done-number day k c, m)))
       carried d (suc n) e z = refused (Accepted d) n
 
-      go : (r : Read) → opened s .answer ≡ r → not (accepted (stepOpened day k r (opened s .list) .answer) && not (declaration r)) ≡ true → P r (stepOpened day k r (opened s .list))
+      go : (r : Read) → opened s .answer ≡ r → not (accepted (stepOpened day k r (opened s .list) .answer) && not (isDeclaration r)) ≡ true → P r (stepOpened day k r (opened s .list))
       go (Refused n) e z = rw (opened-refused s n e) (refused (Refused 2) 1)
       go (Accepted d) e z = let by = carried-by day k (callWith d (opened s .list)) in rw by (carried d _ refl (rw by at z))
 
 module _ (day : ℕ) (isDay : IsDay day) where
-  young-step : (k : State) → StateOk day k → Young k → (s : List ℕ) → not (accepted (step day k s .answer) && not (declaration (opened s .answer))) ≡ true → Young (step day k s .state)
+  young-step : (k : State) → StateOk day k → Young k → (s : List ℕ) → not (accepted (step day k s .answer) && not (isDeclaration (opened s .answer))) ≡ true → Young (step day k s .state)
   young-step k h y s =
       no-call day k h s (λ r z. Young (z .state)) (λ r n. unfold refuse in y) (λ d l p. unfold declared in young-declared day k h y (callWith d l) p)
 
@@ -133,7 +133,7 @@ module _ (day : ℕ) (isDay : IsDay day) where
   unfolding AllOctets without log final
   young-all [] k h y o q = (h, y)
   young-all (r ∷ rs) k h y o q =
-      let p = both (not (accepted (step day k r .answer) && not (declaration (opened r .answer)))) _ q in
+      let p = both (not (accepted (step day k r .answer) && not (isDeclaration (opened r .answer)))) _ q in
       young-all rs (step day k r .state) (step-ok day isDay k h r (o .0)) (young-step k h y r (p .0)) (o .1) (p .1)
 
   -- ---- nothing declared

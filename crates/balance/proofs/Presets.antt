@@ -20,13 +20,13 @@ use Rattle.machine.specs.declared.State.{State}
 use Rattle.machine.specs.State.{nothing}
 use Rattle.machine.specs.Calls.{addTask, addSemaphore, addBolt, addInterrupt, declaration as declaredAs}
 use Rattle.machine.specs.Step.{refuse, declared, step}
-use Rattle.machine.specs.Log.{final, log}
+use Rattle.machine.specs.Log.{isDeclaration, final, log}
 use Rattle.machine.specs.Invariants.{IsDay}
 use Rattle.machine.proofs.Facts.{StateOk}
 use Rattle.machine.proofs.Passed.{Passed, as-mark, room-semaphore}
 use Rattle.machine.proofs.Invariants.{step-ok}
 use Rattle.balance.specs.Counting.{accepted}
-use Rattle.balance.specs.Fresh.{AllOctets, declaration, acceptedCall, without, presetIn, presets, Preset, PresetsAreKept}
+use Rattle.balance.specs.Fresh.{AllOctets, acceptedCall, without, presetIn, presets, Preset, PresetsAreKept}
 use Rattle.balance.proofs.Fresh.{no-call, nothing-ok}
 
 end-at : (vs : List ℕ) (v : ℕ) → getD (vs ++ v ∷ []) (length vs) 0 ≡ v
@@ -66,7 +66,7 @@ module _ (day : ℕ) (k : State) (h : StateOk day k) (vs : List ℕ) (y : Preset
         (λ d. rw d (byBool (is m IT) (λ d. rw d (same _ refl refl))
         (λ d. rw d (byBool (is m DC) (λ d. rw d (same _ refl refl)) (λ d. rw d (same _ refl refl))))))))))
 
-  preset-step : (s : List ℕ) → not (accepted (step day k s .answer) && not (declaration (opened s .answer))) ≡ true
+  preset-step : (s : List ℕ) → not (accepted (step day k s .answer) && not (isDeclaration (opened s .answer))) ≡ true
       → Preset (vs ++ cond (accepted (step day k s .answer)) (presetIn (opened s .answer)) []) (step day k s .state)
   preset-step s =
       no-call day k h s (λ r z. Preset (vs ++ cond (accepted (z .answer)) (presetIn r) []) (z .state))
@@ -78,7 +78,7 @@ preset-all : (day : ℕ) → IsDay day → (rs : List (List ℕ)) (k : State) (v
 unfolding AllOctets without log final presets
 preset-all day isDay [] k vs h y o q = same day k h vs y k refl refl
 preset-all day isDay (r ∷ rs) k vs h y o q =
-    let p = both (not (accepted (step day k r .answer) && not (declaration (opened r .answer)))) _ q in
+    let p = both (not (accepted (step day k r .answer) && not (isDeclaration (opened r .answer)))) _ q in
     rw (← append-assoc vs (cond (accepted (step day k r .answer)) (presetIn (opened r .answer)) []) (presets (log day (step day k r .state) rs)))
     (preset-all day isDay rs (step day k r .state) _ (step-ok day isDay k h r (o .0)) (preset-step day k h vs y r (p .0)) (o .1) (p .1))
 

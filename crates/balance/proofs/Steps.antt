@@ -29,6 +29,7 @@ use Rattle.machine.specs.Work.{Work}
 use Rattle.machine.specs.Sorts.{declares}
 use Rattle.machine.specs.Calls.{workOf}
 use Rattle.machine.specs.Step.{refuse, finish, orRefuse, carryOut, carryOn, step}
+use Rattle.machine.specs.Log.{isDeclaration}
 use Rattle.machine.specs.Invariants.{IsDay}
 use Rattle.machine.proofs.Sets.{has-empty, pow-pos}
 use Rattle.machine.proofs.Facts.{StateOk, passes-of-ok}
@@ -38,7 +39,6 @@ use Rattle.machine.proofs.Cases.{late-refusal, done-number, carried-by, stepOpe
 use Rattle.machine.proofs.Done.{Did, role, call-done}
 use Rattle.machine.proofs.Keeping.{begin, begin-ok, did-ok, finish-ok}
 use Rattle.balance.specs.Counting.{accepted, asks, gives, namesIn, Asking, counts, issuedBy, grantsIn, Open, isIssuer, stays, isIn}
-use Rattle.balance.specs.Fresh.{declaration}
 use Rattle.balance.specs.Balance.{prevents}
 use Rattle.balance.proofs.Grants.{moved-refl, law-moved, no-grants}
 use Rattle.balance.proofs.Works.{Ties, asksIf, lastIf, waitsNow, waitingIn, Marked, still-marked, Declared, only-granted}
@@ -172,11 +172,11 @@ module _ (day : ℕ) (isDay : IsDay day) (k : State) (last : Asking) (was : Open
 
   -- A record that reads as r with the list l.
   read-books : (r : Read) (l : List ℕ) → ((m : ℕ) → r ≡ Refused m → m ≡ 2) → ((d : Head) → r ≡ Accepted d → d .priority < 256)
-      → not (accepted (stepOpened day k r l .answer) && declaration r) ≡ true → StepBooks day k last was r l (stepOpened day k r l)
+      → not (accepted (stepOpened day k r l .answer) && isDeclaration r) ≡ true → StepBooks day k last was r l (stepOpened day k r l)
   read-books (Refused m) l two byte o = let e = two m refl in rw e (refused-books (Refused 2) l 1 (λ z. omega arith))
   read-books (Accepted d) l two byte o = carry-books d l (byte d refl) o
 
-  pub step-books : (s : List ℕ) → Octets s → not (accepted (step day k s .answer) && declaration (opened s .answer)) ≡ true
+  pub step-books : (s : List ℕ) → Octets s → not (accepted (step day k s .answer) && isDeclaration (opened s .answer)) ≡ true
       → StepBooks day k last was (opened s .answer) (opened s .list) (step day k s)
   step-books s o q =
       let on = step-on day k s (passes-of-ok day k (h .ok) .tested) in

@@ -14,8 +14,7 @@ use Rattle.lock.specs.Locks.{emptyBolt, boltAt, level}
 use Rattle.lock.specs.declared.Wait.the-variants.{Request}
 use Rattle.machine.specs.State.{taskAt, enabledAt, freshTask, nothing}
 use Rattle.machine.specs.Test.{valid}
-use Rattle.machine.specs.Sorts.{declares}
-use Rattle.machine.specs.Log.{Entry, final, log}
+use Rattle.machine.specs.Log.{isDeclaration, Entry, final, log}
 use Rattle.machine.specs.Invariants.{IsDay, Tables}
 use Rattle.machine.specs.declared.State.{State}
 use Rattle.balance.specs.Counting.{accepted}
@@ -35,15 +34,11 @@ pub record Fresh (day : ℕ) (k : State) : Type 0 where
   pub bolts : (b : ℕ) → b < k .counts .bolts → boltAt (k .locks) b ≡ emptyBolt
   pub enabled : (i : ℕ) → i < k .counts .interrupts → enabledAt k i ≡ false
 
-abbrev pub declaration : Read → Bool
-declaration (Refused n) = false
-declaration (Accepted h) = declares (h .mark)
-
 abbrev pub acceptedDeclaration : Entry → Bool
-acceptedDeclaration e = accepted (e .answer) && declaration (opened (e .bytes) .answer)
+acceptedDeclaration e = accepted (e .answer) && isDeclaration (opened (e .bytes) .answer)
 
 abbrev pub acceptedCall : Entry → Bool
-acceptedCall e = accepted (e .answer) && not (declaration (opened (e .bytes) .answer))
+acceptedCall e = accepted (e .answer) && not (isDeclaration (opened (e .bytes) .answer))
 
 -- No entry passes a test.
 unfoldable pub without : (Entry → Bool) → List Entry → Bool

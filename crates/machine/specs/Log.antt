@@ -1,9 +1,18 @@
 -- What a list of records leaves: the last kernel, and the log of records and answers.
 use mathlib.Core.List.{List, [], _∷_}
+use mathlib.Core.Bool.{Bool, false}
 use Prim.Native.Nat.{ℕ}
+use Rattle.record.specs.declared.Read.{Read}
+use Rattle.record.specs.declared.Read.the-variants.{Refused, Accepted}
 use Rattle.machine.specs.declared.State.{State}
 use Rattle.machine.specs.declared.Answer.{Answer}
+use Rattle.machine.specs.Sorts.{declares}
 use Rattle.machine.specs.Step.{step}
+
+-- What was opened is a declaration.
+abbrev pub isDeclaration : Read → Bool
+isDeclaration (Refused n) = false
+isDeclaration (Accepted h) = declares (h .mark)
 
 pub record Entry : Type 0 where
   pub bytes : List ℕ

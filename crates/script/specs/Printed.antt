@@ -4,21 +4,13 @@ use mathlib.Core.List.{List, [], _∷_, _++_}
 use Prim.Native.Nat.{ℕ}
 use lib.Dec.{eqb}
 use Rattle.record.specs.Reading.{opened}
-use Rattle.record.specs.declared.Read.{Read}
-use Rattle.record.specs.declared.Read.the-variants.{Refused, Accepted}
-use Rattle.machine.specs.Refusals.{declares}
-use Rattle.machine.specs.Log.{Entry}
+use Rattle.machine.specs.Log.{isDeclaration, Entry}
 use Rattle.machine.specs.declared.Answer.{Answer}
 use Rattle.lines.specs.Lines.{line}
 
--- What was opened is a declaration.
-abbrev pub readDeclares : Read → Bool
-readDeclares (Refused n) = false
-readDeclares (Accepted h) = declares (h .mark)
-
 -- An accepted declaration.
 unfoldable pub silent : List ℕ → Answer → Bool
-silent bytes a = eqb (a .number) 0 && readDeclares (opened bytes .answer)
+silent bytes a = eqb (a .number) 0 && isDeclaration (opened bytes .answer)
 
 -- The line of an answer, or nothing.
 abbrev pub shown : Bool → Answer → List ℕ
