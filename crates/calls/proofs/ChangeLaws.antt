@@ -25,7 +25,7 @@ use Rattle.task.specs.declared.Task.{Task}
 use Rattle.task.specs.declared.Turn.{Turn}
 use Rattle.task.proofs.Waits.{NoNewWait, no-wait-end, no-wait-prevent, no-wait-suspend, no-wait-continue, no-wait-resume}
 use Rattle.machine.specs.Calls.{askAs, giveBack}
-use Rattle.machine.specs.Granting.{couldBeGranted}
+use Rattle.machine.specs.Granting.{available, couldBeGranted}
 use Rattle.machine.specs.Refusals.{declares, declaredIn, listDeclared, formalRefusal, stateRefusalOf}
 use Rattle.machine.specs.Running.{runner, someone}
 use Rattle.machine.specs.State.{mostTasks, taskAt, withState}
@@ -118,7 +118,7 @@ module _ (day : ℕ) (k : State) (h : Head) (l : List ℕ) where
   work-asks :
       (r : Running) (waits : Bool) (w : Wait) → runnerFirst r 0 ≡ 0
       → changed k (runnerAt r) (asks waits w call (taskAt (k .tasks) (runnerAt r)) (k .locks)) ≡ askAs k r waits w call
-  unfolding changed asks askAs couldBeGranted onlyLocks oneTurn
+  unfolding changed asks askAs available couldBeGranted onlyLocks oneTurn
   work-asks Idle waits w e = absurd (omega arith)
   work-asks (Runs i) true w e =
       byBool (grantable w (k .locks) (named call)) (λ g. rw (g, set-getD (k .tasks) i noTask)) (λ g. rw g)

@@ -15,6 +15,8 @@ use lock::Locks;
 use lock::Wait;
 use machine::Running;
 use serving::ends::Marks;
+use survey::granting::Asker;
+use survey::granting::could_be_granted;
 use survey::sets::only_task;
 use task::Task;
 use task::Turn;
@@ -86,7 +88,10 @@ fn asked(waits: bool, w: Wait, h: Head, list: Numbers, t: Task, locks: Locks) ->
     ensures { λ c. ⌜ c ≡ asks waits w (callWith h list) t locks ⌝ }
 {
     let n = h.len as usize;
-    if locks.is_grantable(w, n, list) {
+    let by = Asker {
+        priority: t.current,
+    };
+    if could_be_granted(locks, by, w, n, list) {
         return by_locks(t, locks.take_all(w, n, list), true);
     }
     if !waits {

@@ -15,7 +15,7 @@ use Rattle.machine.specs.declared.Answer.{Answer}
 use Rattle.machine.specs.Sets.{has, setOf}
 use Rattle.machine.specs.State.{freshTask, nothing}
 use Rattle.machine.specs.Running.{urgency, mostUrgent, runningOf}
-use Rattle.machine.specs.Granting.{couldBeGranted}
+use Rattle.machine.specs.Granting.{available, couldBeGranted}
 use Rattle.machine.specs.Work.{onlyLocks, oneTurn, everyTurn}
 use Rattle.machine.specs.Serving.{grantTo, serve}
 use Rattle.machine.specs.Test.{scheduleOk, taskOk, allBelow, countsOk, nobodyServable, valid}
@@ -26,5 +26,5 @@ use Rattle.machine.specs.Log.{final, log}
 use Rattle.machine.specs.Marked.{answers}
 
 unfoldable pub computed : List (List ℕ) → List Answer
-unfolding timeOfDay until firstDue lastAllowed allowed nextDue among headOf listOf bytesOf allZero names distinct uses cleanNames cleanStart ranged formed listed endTimed firstTimed startTimed timed shape times opened level free takeOne taken giveOne every forEach advance launch dueIf endIf preventTurn suspendTurn continueTurn resumeTurn wake fallTurn triggerTurn has setOf freshTask nothing urgency mostUrgent runningOf couldBeGranted onlyLocks oneTurn everyTurn grantTo serve scheduleOk taskOk allBelow countsOk nobodyServable valid declares roomFor declaredIn formalRefusal stateRefusalOf refusalOf addTask addSemaphore addBolt addInterrupt scheduleOf activateTurn askAs trigger tick refuse finish declared carryOut carryOn carry step final log
+unfolding timeOfDay until firstDue lastAllowed allowed nextDue among headOf listOf bytesOf allZero names distinct uses cleanNames cleanStart ranged formed listed endTimed firstTimed startTimed timed shape times opened level free takeOne taken giveOne every forEach advance launch dueIf endIf preventTurn suspendTurn continueTurn resumeTurn wake fallTurn triggerTurn has setOf freshTask nothing urgency mostUrgent runningOf available couldBeGranted onlyLocks oneTurn everyTurn grantTo serve scheduleOk taskOk allBelow countsOk nobodyServable valid declares roomFor declaredIn formalRefusal stateRefusalOf refusalOf addTask addSemaphore addBolt addInterrupt scheduleOf activateTurn askAs trigger tick refuse finish declared carryOut carryOn carry step final log
 computed rs = answers rs

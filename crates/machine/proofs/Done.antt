@@ -42,7 +42,7 @@ use Rattle.machine.proofs.Facts.{Listed, TaskOk, StateOk}
 use Rattle.machine.proofs.Turns.{Good, good-end, good-prevent, good-suspend, good-continue, good-resume, good-tick, good-trigger, good-activate}
 use Rattle.machine.proofs.Passed.{unless-passed}
 use Rattle.machine.proofs.Accepting.{Passed}
-use Rattle.machine.proofs.Whole.{could-free}
+use Rattle.machine.proofs.Granting.{could-free}
 
 -- What a mark asks for, whether it waits for that, what it gives back, whether it prevents.
 pub record Role : Type 0 where

@@ -3,6 +3,7 @@ pub mod Sets
 pub mod Below
 pub mod Urgency
 pub mod Passed
+pub mod Granting
 pub mod Cases
 pub mod Rows
 -- The kernel test as facts, and what keeps it.

@@ -11,7 +11,7 @@ use Rattle.record.specs.Refusals.{mostValue, named, unless, before}
 use Rattle.layout.specs.declared.Mark.{Mark}
 use Rattle.layout.specs.declared.Mark.the-variants.{DT, DS, DB, IT, DC, AC, TE, SU, PR, CO, EN, RE, RQ, RL, TR, RS, FR, ET, LV, TG, EI, XI, TI}
 use Rattle.layout.specs.declared.Call.{Call}
-use Rattle.lock.specs.Locks.{waiting, free, taken, every, valueAt, boltAt}
+use Rattle.lock.specs.Locks.{waiting, taken, every, valueAt, boltAt}
 use Rattle.lock.specs.declared.Wait.{Wait}
 use Rattle.lock.specs.declared.Wait.the-variants.{Nothing, Request, Reserve, Enter}
 use Rattle.lock.specs.declared.Locks.{Locks}
@@ -24,11 +24,12 @@ use Rattle.machine.specs.declared.Counts.{Counts}
 use Rattle.machine.specs.declared.State.{State}
 use Rattle.machine.specs.State.{taskAt, countOf, withState}
 use Rattle.machine.specs.Running.{urgency, runningOf, runner}
-use Rattle.machine.specs.Granting.{couldBeGranted, servable}
+use Rattle.machine.specs.Granting.{available, couldBeGranted, servable}
 use Rattle.machine.specs.Test.{taskOk, allBelow, countsOk, nobodyServable, valid}
 use Rattle.machine.specs.Refusals.{listDeclared, declaredIn, formalRefusal, stateRefusalOf, refusalOf}
 use Rattle.machine.proofs.Urgency.{scan-same}
 use Rattle.machine.proofs.Below.{all-at}
+use Rattle.machine.proofs.Granting.{could-alike}
 use Rattle.machine.proofs.Passed.{formal, Listed, listed-task}
 
 pub count-below : (n : Counts) (w : Wait) → countOf n w ≡ below (n .semaphores) (n .bolts) w
@@ -62,9 +63,9 @@ module _ (n : Counts) (ts ts′ : List Task) (same : (i : ℕ) → i < n .tasks 
   module _ (r r′ : Locks) (seen : Seen (n .semaphores) (n .bolts) r r′) where
     pub could-same : (q : ℕ) (w : Wait) (l : List ℕ) → every (λ x. ltb x (countOf n w)) l ≡ true
         → couldBeGranted (n .tasks) ts r q w l ≡ couldBeGranted (n .tasks) ts′ r′ q w l
-    unfolding couldBeGranted
+    unfolding available
     could-same q w l e =
-        every-below (free w r) (free w r′) (countOf n w) l e (λ x lt. free-same _ _ r r′ seen w x (rw (count-below n w) at lt))
+        could-alike (n .tasks) ts r q w l (n .tasks) ts′ r′ (countOf n w) e (λ x lt. free-same _ _ r r′ seen w x (rw (count-below n w) at lt))
 
     pub servable-same : (i : ℕ) → i < n .tasks → Listed n (taskAt ts i) → servable (n .tasks) ts r i ≡ servable (n .tasks) ts′ r′ i
     servable-same i l h =

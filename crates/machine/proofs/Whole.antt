@@ -1,24 +1,13 @@
 -- The work of a call that asks for a list.
-use mathlib.Core.Path.{_≡_, refl}
-use mathlib.Core.Bool.{true}
-use mathlib.Core.List.{List}
-use Prim.Native.Nat.{ℕ}
+use mathlib.Core.Path.{refl}
 use Rattle.record.specs.Refusals.{named}
-use Rattle.lock.specs.Locks.{grantable}
-use Rattle.lock.specs.declared.Wait.{Wait}
-use Rattle.lock.specs.declared.Locks.{Locks}
 use Rattle.lock.proofs.Bools.{byBool, contra}
-use Rattle.task.specs.declared.Task.{Task}
 use Rattle.machine.specs.State.{taskAt}
 use Rattle.machine.specs.Granting.{couldBeGranted}
 use Rattle.machine.specs.Work.{onlyLocks, oneTurn}
 use Rattle.machine.specs.Calls.{askAs}
 use Rattle.machine.specs.Whole.{AsksWhole}
-
--- What could be granted has each number free.
-pub could-free : (n : ℕ) (ts : List Task) (r : Locks) (q : ℕ) (w : Wait) (l : List ℕ) → couldBeGranted n ts r q w l ≡ true → grantable w r l ≡ true
-unfolding couldBeGranted
-could-free n ts r q w l e = e
+use Rattle.machine.proofs.Granting.{could-free}
 
 pub asks-whole : AsksWhole
 unfolding askAs onlyLocks oneTurn

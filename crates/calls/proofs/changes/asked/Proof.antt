@@ -1,21 +1,32 @@
 -- By whether all of the list is free, and whether the task waits.
 use borrow.Author.Needs.{needs}
-use mathlib.Core.Path.{sym, _∙_}
+use mathlib.Core.Path.{_≡_, sym, _∙_}
+use mathlib.Core.List.{[]}
 use borrow.Author.Tests.{not-true, not-false}
+use Rattle.record.specs.Reading.{callWith}
+use Rattle.record.specs.Refusals.{named}
+use Rattle.lock.specs.Locks.{grantable}
+use Rattle.machine.specs.Granting.{available, couldBeGranted}
 use Rattle.calls.specs.Changes.{asks}
 use Rattle.calls.proofs.changes.asked.Statement.{statement}
 use Rattle.calls.proofs.changes.asked.Tie as tie
 
+-- Today the locks alone decide.
+granting : (c : tie.After-could-be-granted) → let a = c .before .before .args in
+    c .could-be-granted .result ≡ grantable (a .w) (a .locks) (named (callWith (a .h) (a .list)))
+unfolding couldBeGranted available
+granting c = c .could-be-granted .ensures 0 []
+
 cast-n : tie.Need-cast-n
 cast-n c = search needs
 
-is-grantable-requires : tie.Need-is-grantable-requires
-is-grantable-requires c κs = search needs
+could-be-granted-requires : tie.Need-could-be-granted-requires
+could-be-granted-requires c κs = search needs
 
 take-all-requires : tie.Need-take-all-requires
 take-all-requires c κs =
     let p = c .before .before .before .pre in
-    (p .short, (p .below, (p .once, sym (c .before .is-grantable .ensures) ∙ c .if1 .taken)))
+    (p .short, (p .below, (p .once, sym (granting (c .before)) ∙ c .if1 .taken)))
 
 by-locks-requires : tie.Need-by-locks-requires
 by-locks-requires c κs = search needs
@@ -24,7 +35,7 @@ returns : tie.Need-returns
 unfolding asks
 returns c =
     let p = c .before .before in
-    rw (c .by-locks .ensures, c .before .take-all .ensures, ← p .before .is-grantable .ensures, p .if1 .taken)
+    rw (c .by-locks .ensures, c .before .take-all .ensures, ← granting (p .before), p .if1 .taken)
 
 by-locks-requires-2 : tie.Need-by-locks-requires-2
 by-locks-requires-2 c κs = search needs
@@ -33,7 +44,7 @@ returns-2 : tie.Need-returns-2
 unfolding asks
 returns-2 c =
     let p = c .before .before in
-    rw (c .by-locks2 .ensures, ← p .before .is-grantable .ensures, p .if1 .left, not-true (p .before .before .before .args .waits) (c .before .if2 .taken))
+    rw (c .by-locks2 .ensures, ← granting (p .before), p .if1 .left, not-true (p .before .before .before .args .waits) (c .before .if2 .taken))
 
 waiting-for-requires : tie.Need-waiting-for-requires
 waiting-for-requires c κs = search needs
@@ -45,14 +56,14 @@ returns-3 : tie.Need-returns-3
 unfolding asks
 returns-3 c =
     let p = c .before .before .before in
-    rw (c .by-locks3 .ensures, c .before .waiting-for .ensures, ← p .before .is-grantable .ensures, p .if1 .left, not-false (p .before .before .before .args .waits) (c .before .before .if2 .left))
+    rw (c .by-locks3 .ensures, c .before .waiting-for .ensures, ← granting (p .before), p .if1 .left, not-false (p .before .before .before .args .waits) (c .before .before .if2 .left))
 
 pub asked-spec : {M : Type 1} → statement M
 asked-spec =
     tie.close
     (tie.spec
     cast-n
-    is-grantable-requires
+    could-be-granted-requires
     take-all-requires
     by-locks-requires
     returns

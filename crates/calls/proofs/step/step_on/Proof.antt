@@ -8,7 +8,7 @@ use Rattle.calendar.specs.Limits.{day}
 use Rattle.machine.specs.Step.{step}
 use Rattle.machine.proofs.Quiet.{tick-step}
 use Rattle.record.proofs.ReaderLaws.{read-fields}
-use Rattle.survey.proofs.KernelFacts.{tasks-long}
+use Rattle.survey.proofs.Owned.{tasks-long}
 use Rattle.calls.proofs.StirLaws.{tick-bytes}
 use Rattle.calls.proofs.CallLaws.{read-nothing, read-call, refused-formally, passed-formally, step-tested}
 use borrow.Author.Needs.{needs}
