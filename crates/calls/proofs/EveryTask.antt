@@ -1,6 +1,6 @@
 -- The turns of all tasks, one after the other: what the tables and the sets are with the first i turns made.
 use mathlib.Core.Path.{_≡_, refl, sym, _∙_, ap}
-use mathlib.Core.Bool.{Bool, true, false}
+use mathlib.Core.Bool.{Bool, true, false, _&&_}
 use mathlib.Core.List.{List, [], _∷_, _++_, map}
 use Prim.Native.Nat.{ℕ, zero, suc, _+_, _*_, _^_, _≤_, _<_}
 use native.Mathlib.Nat.{not-suc-le-zero, pow-suc, one-mul}
@@ -16,7 +16,7 @@ use Rattle.layout.specs.declared.Mark.the-variants.{TI}
 use Rattle.layout.specs.declared.Call.{Call}
 use Rattle.lock.specs.Locks.{bit, waiting}
 use Rattle.lock.proofs.Bools.{and-both, byBool}
-use Rattle.task.specs.State.{noTask}
+use Rattle.task.specs.State.{noTask, wanted}
 use Rattle.task.specs.Turns.{unmarked, triggerTurn}
 use Rattle.task.specs.declared.Task.{Task}
 use Rattle.task.specs.declared.Turn.{Turn}
@@ -34,6 +34,7 @@ use Rattle.machine.specs.declared.State.{State}
 use Rattle.machine.specs.declared.Stepped.{Stepped}
 use Rattle.machine.proofs.Below.{all-at, all-from, mostUrgent-none}
 use Rattle.machine.proofs.Facts.{TaskOk, task-test, task-untest, nobody-untest}
+use Rattle.machine.proofs.Granting.{could-locks}
 use Rattle.machine.proofs.Passed.{parts, tested}
 use Rattle.machine.proofs.Works.{turn-at}
 use Rattle.machine.proofs.Sets.{setOf-lt}
@@ -45,7 +46,7 @@ use Rattle.calls.proofs.TurnCases.{sound}
 use Rattle.machine.specs.declared.Running.{Running}
 use Rattle.machine.specs.declared.Running.the-variants.{Idle}
 use Rattle.serving.proofs.ServeLaws.{served-idle}
-use Rattle.serving.proofs.WaitLaws.{servable-idle, servable-as}
+use Rattle.serving.proofs.WaitLaws.{servable-idle}
 
 -- ---- a set with one more place
 
@@ -208,10 +209,9 @@ every-idle day k v long n f new =
     let t = taskAt (k .tasks) i in
     let e : taskAt ts i ≡ f t .task = turn-at c f (k .tasks) room i l in
     let s = new t (ap (λ (u : Task). waiting (u .wait)) (sym e) ∙ w) in
-    servable-as c ts (k .locks) i w
-    ∙ rw (e, s .0, s .1, s .2)
-    (sym (servable-as c (k .tasks) (k .locks) i (ap waiting (sym (s .0)) ∙ ap (λ (u : Task). waiting (u .wait)) (sym e) ∙ w))
-    ∙ nobody-untest k (parts day k v .stuck) i l))
+    ap (λ (b : Bool). waiting (taskAt ts i .wait) && b)
+    (could-locks c ts (k .locks) (taskAt ts i .current) (taskAt ts i .wait) (wanted (taskAt ts i)) c (k .tasks) (t .current))
+    ∙ rw (e, s .0, s .1, s .2) (nobody-untest k (parts day k v .stuck) i l))
     (servable-idle c ts (k .locks) i))
 
 -- The call ends at instant n where nobody is to be served once every task has had its turn.

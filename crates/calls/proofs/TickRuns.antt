@@ -30,9 +30,9 @@ use Rattle.machine.specs.Running.{urgency, mostUrgent, runningOf}
 use Rattle.machine.specs.declared.Running.{Running}
 use Rattle.machine.specs.declared.Running.the-variants.{Idle, Runs}
 use Rattle.machine.proofs.Below.{Found, scan-finds, mostUrgent-at}
-use Rattle.survey.specs.Leads.{nobody, noLead, leadOf, against}
+use Rattle.survey.specs.Leads.{nobody, noLead, leadOf, against, Leads}
 use Rattle.survey.specs.declared.scan.Lead.{Lead}
-use Rattle.survey.proofs.LeadLaws.{canRun, lead-who}
+use Rattle.survey.proofs.LeadLaws.{canRun, leads-nobody, leads-one}
 use Rattle.calls.specs.Stirring.{mayStir}
 
 -- ---- one number that changes
@@ -53,36 +53,44 @@ module _ (n : ℕ) (test test′ : ℕ → Bool) (u u′ : ℕ → ℕ) (i : ℕ
   kept : (j : ℕ) → test j ≡ true → (test′ j ≡ true) × (u j ≡ u′ j)
   kept j e = byEq j i (λ q. rw q (stays (rw q at e))) (λ q. (sym (same j q .0) ∙ e, same j q .1))
 
-  held : (r : Running) → Found n test u r → (r′ : Running) × (leadOf u′ r′ ≡ against (leadOf u r) (test′ i) (u′ i) i) × Found n test′ u′ r′
+  abbrev Held : Lead → Type 0
+  Held a = (r : Running) × Leads u′ r (against a (test′ i) (u′ i) i) × Found n test′ u′ r
+
+  held : (r : Running) (a : Lead) → Leads u r a → Found n test u r → Held a
   unfolding leadOf against
-  held Idle f =
-      byBool (test′ i)
-      (λ e. (Runs i, rw (e, lt-ltb _ _ small), (l, e, λ j h t. byEq j i (λ q. rw q (omega arith)) (λ q. contra (same j q .0 ∙ t) (f j h)))))
-      (λ e. (Idle, rw e, λ j h. byEq j i (λ q. rw q e) (λ q. sym (same j q .0) ∙ f j h)))
-  held (Runs k) f =
-      byBool (test′ i && ltb (u′ i) (u k))
+  held Idle a h f =
+      rw (h .lead)
+      (byBool (test′ i)
+      (λ e. (Runs i, rw (e, lt-ltb _ _ small) (leads-one u′ i small), (l, e, λ j x t. byEq j i (λ q. rw q (omega arith)) (λ q. contra (same j q .0 ∙ t) (f j x)))))
+      (λ e. (Idle, rw e (leads-nobody u′), λ j x. byEq j i (λ q. rw q e) (λ q. sym (same j q .0) ∙ f j x))))
+  held (Runs k) a h f =
+      byBool (test′ i && ltb (u′ i) (a .urgency))
       (λ e.
       let b = both (test′ i) _ e in
-      (Runs i, rw e, (l, b .0, λ j h t. byEq j i (λ q. rw q (omega arith)) (λ q. omega (arith, ltb-true (u′ i) (u k) (b .1), f .2 j h (same j q .0 ∙ t), same j q .1)))))
+      let less : u′ i < u k = rw (h .lead) at (ltb-true (u′ i) (a .urgency) (b .1)) in
+      (Runs i, rw e (leads-one u′ i small), (l, b .0, λ j x t. byEq j i (λ q. rw q (omega arith)) (λ q. omega (arith, less, f .2 j x (same j q .0 ∙ t), same j q .1)))))
       (λ e.
       let p = kept k (f .1) in (
         Runs k,
-        rw (e, p .1),
+        rw e (record { lead = h .lead ∙ rw (p .1); who = h .who }),
         (
           f .0,
           p .0,
-          λ j h t.
+          λ j x t.
               byEq j i
-              (λ q. let t′ : test′ i ≡ true = rw q at t in rw q (omega (arith, p .1, ltb-false (u′ i) (u k) (rw t′ at e))))
-              (λ q. omega (arith, p .1, f .2 j h (same j q .0 ∙ t), same j q .1)),
+              (λ q.
+              let t′ : test′ i ≡ true = rw q at t in
+              let most : u k ≤ u′ i = rw (h .lead) at (ltb-false (u′ i) (a .urgency) (rw t′ at e)) in
+              rw q (omega (arith, p .1, most)))
+              (λ q. omega (arith, p .1, f .2 j x (same j q .0 ∙ t), same j q .1)),
         ),
       ))
 
-  lead-set : ((i j : ℕ) → i < n → j < n → u′ i ≡ u′ j → i ≡ j)
-      → leadOf u′ (mostUrgent n test′ u′) ≡ against (leadOf u (mostUrgent n test u)) (test′ i) (u′ i) i
-  lead-set apart =
-      let h = held _ (scan-finds n test u) in
-      ap (leadOf u′) (found-one n test′ u′ apart _ (h .0) (scan-finds n test′ u′) (h .2)) ∙ h .1
+  leads-set : ((i j : ℕ) → i < n → j < n → u′ i ≡ u′ j → i ≡ j) → (a : Lead) → Leads u (mostUrgent n test u) a
+      → Leads u′ (mostUrgent n test′ u′) (against a (test′ i) (u′ i) i)
+  leads-set apart a h =
+      let x = held _ a h (scan-finds n test u) in
+      rw (found-one n test′ u′ apart (mostUrgent n test′ u′) (x .0) (scan-finds n test′ u′) (x .2)) (x .1)
 
 -- ---- a turn at a tick
 
@@ -110,47 +118,38 @@ runs-on n t e =
 
 -- ---- a table, and who leads of those of its first c tasks that can run
 
-pub record Led (ts : List Task) (c : ℕ) (lead : Lead) : Type 0 where
+pub record Leading (ts : List Task) (c : ℕ) (lead : Lead) : Type 0 where
   pub long : length ts ≡ mostTasks
-  pub leads : lead ≡ leadOf (urgency ts) (runningOf c ts)
+  pub leads : Leads (urgency ts) (runningOf c ts) lead
 
-pub led-idle : (ts : List Task) (c : ℕ) → length ts ≡ mostTasks → runningOf c ts ≡ Idle → {lead : Lead} → lead ≡ noLead → Led ts c lead
-unfolding leadOf
-led-idle ts c f e q = record { long = f; leads = q ∙ rw e }
+pub leading-none : (ts : List Task) (c : ℕ) → length ts ≡ mostTasks → runningOf c ts ≡ Idle → {lead : Lead} → lead ≡ noLead → Leading ts c lead
+leading-none ts c f e q = record { long = f; leads = rw (q, e) (leads-nobody (urgency ts)) }
 
-pub led-from : (ts : List Task) (c j : ℕ) → length ts ≡ mostTasks → runningOf c ts ≡ Runs j → {u : ℕ} {none lead : Lead}
-    → (u ≡ mostTasks * taskAt ts j .current + j) × (u < nobody) → none ≡ noLead → lead ≡ against none true u j → Led ts c lead
-unfolding leadOf against urgency
-led-from ts c j f e v z q = record { long = f; leads = q ∙ rw (z, lt-ltb _ _ (v .1), e, v .0) }
+pub leading-from : (ts : List Task) (c j : ℕ) → length ts ≡ mostTasks → runningOf c ts ≡ Runs j → {u : ℕ} {none lead : Lead}
+    → (u ≡ mostTasks * taskAt ts j .current + j) × (u < nobody) → none ≡ noLead → lead ≡ against none true u j → Leading ts c lead
+unfolding against urgency
+leading-from ts c j f e v z q = record { long = f; leads = rw (q, z, lt-ltb _ _ (v .1), e, v .0) (leads-one (urgency ts) j (rw (v .0) at (v .1))) }
 
 -- Task i has had its turn,
-pub led-more : (n : Instant) (ts : List Task) (c i : ℕ) → i < c → c ≤ mostTasks → {ts′ : List Task} {lead lead′ : Lead} {runs : Bool} {v : ℕ}
-    → (u : Turn) → u ≡ tickTurn n (taskAt ts i) → Led ts c lead → ts′ ≡ set ts i (u .task) → runs ≡ runnable (u .task)
+pub leading-more : (n : Instant) (ts : List Task) (c i : ℕ) → i < c → c ≤ mostTasks → {ts′ : List Task} {lead lead′ : Lead} {runs : Bool} {v : ℕ}
+    → (u : Turn) → u ≡ tickTurn n (taskAt ts i) → Leading ts c lead → ts′ ≡ set ts i (u .task) → runs ≡ runnable (u .task)
     → (v ≡ mostTasks * u .task .current + i) × (v < nobody) → lead′ ≡ against lead runs v i
-    → Led ts′ c lead′
+    → Leading ts′ c lead′
 unfolding runningOf urgency
-led-more n ts c i l b u e h a r v q =
+leading-more n ts c i l b {lead = lead} u e h a r v q =
     let ts′ = set ts i (u .task) in
     let there : taskAt ts′ i ≡ u .task = getD-set-same ts i (u .task) noTask (omega (arith, h .long)) in
     let moved =
-    lead-set c (canRun ts) (canRun ts′) (urgency ts) (urgency ts′) i l
+    leads-set c (canRun ts) (canRun ts′) (urgency ts) (urgency ts′) i l
     (λ j ne. let o = getD-set-other ts i j (u .task) noTask ne in (rw o, rw o))
     (λ x. rw (there, e) (let s = runs-on n (taskAt ts i) x in (s .0, rw (s .1))))
     (rw (there, ← v .0) (v .1))
-    (λ i j x y z. omega arith) in
-    rw a
-    (record {
-      long = length-set ts i (u .task) ∙ h .long;
-      leads = q ∙ rw (h .leads, r, v .0) (sym (rw there at moved));
-    })
+    (λ i j x y z. omega arith) lead (h .leads) in
+    rw a (record { long = length-set ts i (u .task) ∙ h .long; leads = rw (q, r, v .0) (rw there at moved) })
 
 -- or was passed over.
-pub led-still : {ts ts′ : List Task} {c : ℕ} {lead lead′ : Lead} → Led ts c lead → ts′ ≡ ts → lead′ ≡ lead → Led ts′ c lead′
-led-still h a b = rw (a, b) h
-
--- The lead runs.
-pub led-runs : {ts : List Task} {c : ℕ} {lead : Lead} → Led ts c lead → lead .who ≡ runningOf c ts
-led-runs {ts = ts} {c = c} h = rw (h .leads) (lead-who (urgency ts) (runningOf c ts))
+pub leading-still : {ts ts′ : List Task} {c : ℕ} {lead lead′ : Lead} → Leading ts c lead → ts′ ≡ ts → lead′ ≡ lead → Leading ts′ c lead′
+leading-still h a b = rw (a, b) h
 
 pub runs-below : (ts : List Task) (c j : ℕ) → runningOf c ts ≡ Runs j → j < c
 unfolding runningOf

@@ -24,6 +24,8 @@ use machine::Change;
 use machine::Running;
 use machine::Sort;
 use serving::ends::Marks;
+use survey::granting::Asker;
+use survey::granting::could_be_granted;
 use survey::sets::only_task;
 use task::Task;
 use task::Turn;
@@ -110,7 +112,10 @@ fn asked(w: Wait, waits: bool, h: Head, list: Numbers, t: Task, locks: Locks) ->
     ensures { λ c. ⌜ ((n : ℕ) (ts : List Task) → c ≡ asks n ts w waits (callWith h list) t locks) ⌝ }
 {
     let n = h.len as usize;
-    if locks.can_move_all(Way::Take, w, n, list) {
+    let by = Asker {
+        priority: t.current,
+    };
+    if could_be_granted(locks, by, w, n, list) {
         return by_locks(t, locks.move_all(Way::Take, w, n, list), true);
     }
     if !waits {

@@ -125,7 +125,7 @@ pub(crate) fn ticked(mut k: State, r: Running) -> Stepped
             lead = lead.against(after.is_runnable(), urgency_of(after.current, i), i);
         }
     }
-    let runner = lead.who;
+    let runner = lead.who();
     Stepped {
         state: begun_at(k, n),
         answer: answer_of(0, runner, m),

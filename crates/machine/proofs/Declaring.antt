@@ -19,7 +19,7 @@ use Rattle.lock.specs.declared.Wait.{Wait}
 use Rattle.lock.specs.declared.Wait.the-variants.{Nothing, Request, Reserve, Enter}
 use Rattle.lock.specs.declared.Locks.{Locks}
 use Rattle.lock.proofs.Bools.{byBool, byEq, contra, both, and-both}
-use Rattle.lock.proofs.Lists.{every-below, every-more}
+use Rattle.lock.proofs.Lists.{every-more}
 use Rattle.lock.proofs.Levels.{SameSize, size-refl, size-value, size-bolt, value-same, value-other, bolt-same, bolt-other}
 use Rattle.lock.proofs.Alike.{can-alike}
 use Rattle.task.specs.State.{noTask, wanted}
@@ -27,8 +27,9 @@ use Rattle.task.specs.declared.Task.{Task}
 use Rattle.machine.specs.declared.Counts.{Counts}
 use Rattle.machine.specs.declared.State.{State}
 use Rattle.machine.specs.State.{mostTasks, mostSemaphores, mostBolts, mostInterrupts, taskAt, countOf, freshTask, withState, withCounts, withClock}
-use Rattle.machine.specs.Granting.{couldBeGranted, servable}
+use Rattle.machine.specs.Granting.{available, servable}
 use Rattle.machine.specs.Test.{isPriority, scheduleOk}
+use Rattle.machine.proofs.Granting.{could-alike}
 use Rattle.machine.specs.Calls.{addTask, addSemaphore, addBolt, addInterrupt}
 use Rattle.machine.proofs.Passed.{Passed, Fits, room-task, room-semaphore, room-bolt, room-interrupt}
 use Rattle.machine.proofs.Facts.{TaskOk, Bounded, bounded-of, StateOk}
@@ -80,11 +81,11 @@ fresh-unwaiting p = refl
 -- A list of declared numbers that could not be granted still cannot, where their locks are as they were.
 stuck-stays : (day : ℕ) (k : State) → StateOk day k → (n : ℕ) (ts : List Task) (r : Locks) (i : ℕ) → taskAt ts i ≡ taskAt (k .tasks) i
     → ((w : Wait) (y : ℕ) → y < countOf (k .counts) w → free w r y ≡ free w (k .locks) y) → i < k .counts .tasks → servable n ts r i ≡ false
-unfolding couldBeGranted
+unfolding available
 stuck-stays day k h n ts r i e f l =
     let t = taskAt (k .tasks) i in
     rw e (byBool (waiting (t .wait))
-    (λ w. rw (every-below (free (t .wait) r) (free (t .wait) (k .locks)) (countOf (k .counts) (t .wait)) (wanted t) (h .tasks-ok i l .listed w .below) (f (t .wait))) (h .stuck i l))
+    (λ w. rw (could-alike n ts r (t .current) (t .wait) (wanted t) (k .counts .tasks) (k .tasks) (k .locks) (countOf (k .counts) (t .wait)) (h .tasks-ok i l .listed w .below) (f (t .wait))) (h .stuck i l))
     (λ w. rw w))
 
 -- ---- room and ranges

@@ -44,7 +44,7 @@ use Rattle.machine.proofs.Turns.{Good, good-end, good-prevent, good-sus
 use Rattle.machine.proofs.Passed.{Formal, formal-as, Passed, unrefused}
 use Rattle.machine.proofs.Sorts.{listing, other-mark, asked-waits, given-waits, tick-mark, list-mark, list-shape}
 use Rattle.machine.proofs.Works.{oneTurn, onlyLocks, locks-alone, enabled-alone}
-use Rattle.machine.proofs.Whole.{could-free}
+use Rattle.machine.proofs.Granting.{could-free}
 
 -- What a mark asks for, whether it waits for that, what it gives back, whether it prevents.
 pub record Role : Type 0 where

@@ -4,6 +4,7 @@ pub mod Below
 pub mod Urgency
 pub mod Passed
 pub mod Sorts
+pub mod Granting
 pub mod Cases
 pub mod Rows
 -- The kernel test as facts, and what keeps it.

@@ -30,12 +30,13 @@ use Rattle.machine.specs.declared.Sort.{Sort}
 use Rattle.machine.specs.declared.Sort.the-variants.{Declaration, OneTask, TheRunner, ListAsked, ListGiven, AnInterrupt, EveryTask}
 use Rattle.machine.specs.State.{taskAt, countOf, withState}
 use Rattle.machine.specs.Running.{urgency, runningOf, runner}
-use Rattle.machine.specs.Granting.{couldBeGranted, servable}
+use Rattle.machine.specs.Granting.{available, couldBeGranted, servable}
 use Rattle.machine.specs.Test.{taskOk, allBelow, countsOk, nobodyServable, valid}
 use Rattle.machine.specs.Sorts.{sortOf, givenKind, naming, runnerAt, placeOf}
 use Rattle.machine.specs.Refusals.{listDeclared, declaredBy, declaredIn, formalRefusal, refusalBy, stateRefusal}
 use Rattle.machine.proofs.Urgency.{scan-same}
 use Rattle.machine.proofs.Below.{all-at}
+use Rattle.machine.proofs.Granting.{could-alike}
 use Rattle.machine.proofs.Sorts.{other-mark}
 use Rattle.machine.proofs.Passed.{refusalOf, formal, Listed, listed-task}
 
@@ -74,8 +75,9 @@ module _ (n : Counts) (ts ts′ : List Task) (same : (i : ℕ) → i < n .tasks 
 
     pub could-same : (q : ℕ) (w : Wait) (l : List ℕ) → every (λ x. ltb x (countOf n w)) l ≡ true
         → couldBeGranted (n .tasks) ts r q w l ≡ couldBeGranted (n .tasks) ts′ r′ q w l
-    unfolding couldBeGranted
-    could-same q w l e = moves-same Take w l e
+    unfolding available
+    could-same q w l e =
+        could-alike (n .tasks) ts r q w l (n .tasks) ts′ r′ (countOf n w) e (λ x lt. can-alike _ _ r r′ seen Take w x (rw (count-below n w) at lt))
 
     pub servable-same : (i : ℕ) → i < n .tasks → Listed n (taskAt ts i) → servable (n .tasks) ts r i ≡ servable (n .tasks) ts′ r′ i
     servable-same i l h =

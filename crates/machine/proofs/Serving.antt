@@ -29,7 +29,7 @@ use Rattle.machine.specs.Serving.{Served, nextServed, grantTo, serve}
 use Rattle.machine.specs.Invariants.{ServingEnds}
 use Rattle.machine.proofs.Below.{mostUrgent-idle, mostUrgent-at, sum-update, sum-at, sum-le}
 use Rattle.machine.proofs.Facts.{TaskOk, Bounded, StateOk, proper-list}
-use Rattle.machine.proofs.Whole.{could-free}
+use Rattle.machine.proofs.Granting.{could-free}
 
 -- ---- one grant
 

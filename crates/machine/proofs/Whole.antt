@@ -1,25 +1,16 @@
 -- The work of a call that asks for a list.
-use mathlib.Core.Path.{_≡_, refl}
+use mathlib.Core.Path.{refl}
 use mathlib.Core.Bool.{true, false}
-use mathlib.Core.List.{List}
-use Prim.Native.Nat.{ℕ}
 use Rattle.record.specs.Refusals.{named}
-use Rattle.lock.specs.Locks.{grantable, takeAll}
-use Rattle.lock.specs.declared.Wait.{Wait}
-use Rattle.lock.specs.declared.Locks.{Locks}
+use Rattle.lock.specs.Locks.{takeAll}
 use Rattle.lock.proofs.Bools.{byBool, contra}
-use Rattle.task.specs.declared.Task.{Task}
 use Rattle.machine.specs.State.{taskAt}
 use Rattle.machine.specs.Granting.{couldBeGranted}
 use Rattle.machine.specs.Work.{changed}
 use Rattle.machine.specs.Calls.{asks, changeOf, workBy}
 use Rattle.machine.specs.Whole.{AsksWhole}
+use Rattle.machine.proofs.Granting.{could-free}
 use Rattle.machine.proofs.Works.{onlyLocks, locks-alone}
-
--- What could be granted has each number free.
-pub could-free : (n : ℕ) (ts : List Task) (r : Locks) (q : ℕ) (w : Wait) (l : List ℕ) → couldBeGranted n ts r q w l ≡ true → grantable w r l ≡ true
-unfolding couldBeGranted
-could-free n ts r q w l e = e
 
 pub asks-whole : AsksWhole
 unfolding workBy changeOf asks

@@ -3,7 +3,6 @@ pub mod BufferLaws
 pub mod RecordLaws
 pub mod CarryLaws
 pub mod PrintLaws
-pub mod OwnedTables
 pub mod Going
 -- Proofs of the promises.
 pub mod AnswerLaws

@@ -1,8 +1,8 @@
--- Serving turn by turn: each grant ends a wait, so as many turns as tasks wait are enough.
-use mathlib.Core.Path.{_≡_, refl, sym, _∙_}
+-- Serving turn by turn.
+use mathlib.Core.Path.{_≡_, refl, sym, _∙_, ap}
 use mathlib.Core.Bool.{true, false}
 use mathlib.Core.List.{List}
-use Prim.Native.Nat.{ℕ, zero, suc, _+_, _≤_, _<_}
+use Prim.Native.Nat.{ℕ, zero, suc, _+_, _<_}
 use native.Mathlib.Omega.{arith}
 use Rattle.lock.specs.Locks.{waiting}
 use Rattle.lock.proofs.Bools.{byEq, contra}
@@ -12,19 +12,17 @@ use Rattle.machine.specs.State.{taskAt}
 use Rattle.machine.specs.Granting.{servable}
 use Rattle.machine.specs.Running.{someone}
 use Rattle.machine.specs.Serving.{Served, nextServed, grantTo, serve}
+use Rattle.machine.specs.declared.Counts.{Counts}
 use Rattle.machine.specs.declared.State.{State}
 use Rattle.machine.specs.declared.Running.{Running}
 use Rattle.machine.specs.declared.Running.the-variants.{Idle, Runs}
 use Rattle.machine.proofs.Below.{mostUrgent-at, mostUrgent-none}
-use Rattle.machine.proofs.Serving.{waiters, waiters-le, grant-fewer}
+use Rattle.survey.specs.Looks.{waitsOk}
 use Rattle.serving.specs.Ends.{served, withServed, servedOf}
-use Rattle.serving.proofs.WaitLaws.{servable-idle}
+use Rattle.serving.proofs.WaitLaws.{servable-idle, waits-kept}
 
 pub next-right : (n : ℕ) (p : Served) (j : ℕ) → nextServed n p ≡ Runs j → (j < n) × (servable n (p .tasks) (p .locks) j ≡ true)
 next-right n p j e = mostUrgent-at n (servable n (p .tasks) (p .locks)) _ j e
-
-pub next-fewer : (n : ℕ) (p : Served) (j : ℕ) → nextServed n p ≡ Runs j → waiters n (grantTo j p .tasks) + 1 ≡ waiters n (p .tasks)
-next-fewer n p j e = let u = next-right n p j e in grant-fewer n p j (u .0) (u .1)
 
 serve-idle : (n turns : ℕ) (p : Served) → nextServed n p ≡ Idle → serve n turns p ≡ p
 unfolding serve
@@ -35,30 +33,52 @@ serve-grant : (n turns : ℕ) (p : Served) (j : ℕ) → nextServed n p ≡ Runs
 unfolding serve
 serve-grant n turns p j e = rw (e, serve)
 
--- One more turn changes nothing where there are as many as tasks wait.
-serve-more : (n turns : ℕ) (p : Served) → waiters n (p .tasks) ≤ turns → serve n (suc turns) p ≡ serve n turns p
-serve-more n zero p w = go (nextServed n p) refl
-  where
-    go : (r : Running) → nextServed n p ≡ r → serve n 1 p ≡ serve n 0 p
-    go Idle e = serve-idle n 1 p e ∙ sym (serve-idle n 0 p e)
-    go (Runs j) e = absurd (omega (arith, next-fewer n p j e))
-serve-more n (suc turns) p w = go (λ q. serve-more n turns q) (nextServed n p) refl
-  where
-    go : ((q : Served) → waiters n (q .tasks) ≤ turns → serve n (suc turns) q ≡ serve n turns q) → (r : Running) → nextServed n p ≡ r → serve n (suc (suc turns)) p ≡ serve n (suc turns) p
-    go ih Idle e = serve-idle n (suc (suc turns)) p e ∙ sym (serve-idle n (suc turns) p e)
-    go ih (Runs j) e = serve-grant n (suc turns) p j e ∙ ih (grantTo j p) (omega (arith, next-fewer n p j e)) ∙ sym (serve-grant n turns p j e)
-
 -- ---- a kernel's turns
 
 pub served-idle : (k : State) (g : ℕ) → nextServed (k .counts .tasks) (served k 0) ≡ Idle → servedOf k g ≡ served k g
 unfolding servedOf
 served-idle k g e = serve-idle (k .counts .tasks) (k .counts .tasks) (served k g) e
 
-pub served-grant : (k : State) (g j : ℕ) → nextServed (k .counts .tasks) (served k 0) ≡ Runs j → servedOf (withServed (grantTo j (served k 0)) k) (put j g) ≡ servedOf k g
-unfolding servedOf grantTo
-served-grant k g j e =
-    let n = k .counts .tasks in
-    sym (serve-grant n n (served k g) j e) ∙ serve-more n n (served k g) (waiters-le n (k .tasks))
+-- The kernel `now`, with g granted so far and as many turns left, comes to what serving makes of k with `first` granted.
+pub record Serves (k : State) (first left : ℕ) (now : State) (g : ℕ) : Type 0 where
+  pub waits : waitsOk now ≡ true
+  pub counts : now .counts ≡ k .counts
+  pub state : withServed (serve (k .counts .tasks) left (served now g)) now ≡ withServed (servedOf k first) k
+  pub granted : serve (k .counts .tasks) left (served now g) .granted ≡ servedOf k first .granted
+
+-- It has come to that.
+abbrev Ends : State → ℕ → State → ℕ → Type 0
+Ends k first now g = (now ≡ withServed (servedOf k first) k) × (g ≡ servedOf k first .granted)
+
+pub serves-start : (k : State) (g : ℕ) → waitsOk k ≡ true → {left : ℕ} → left ≡ k .counts .tasks → Serves k g left k g
+unfolding servedOf
+serves-start k g w e = record { waits = w; counts = refl; state = rw e; granted = rw e }
+
+module _ {k : State} {first left : ℕ} {now : State} {g : ℕ} (h : Serves k first left now g) where
+  counted : {r : Running} → nextServed (now .counts .tasks) (served now 0) ≡ r → nextServed (k .counts .tasks) (served now 0) ≡ r
+  counted e = ap (λ (n : Counts). nextServed (n .tasks) (served now 0)) (sym (h .counts)) ∙ e
+
+  pub serves-idle : nextServed (now .counts .tasks) (served now 0) ≡ Idle → Ends k first now g
+  serves-idle e =
+      let q = sym (serve-idle (k .counts .tasks) left (served now g) (counted e)) in
+      (ap (λ (p : Served). withServed p now) q ∙ h .state, ap (λ (p : Served). p .granted) q ∙ h .granted)
+
+  pub serves-end : left ≡ 0 → Ends k first now g
+  unfolding serve
+  serves-end e = (rw e at (h .state), rw e at (h .granted))
+
+  pub serves-turn : (j less : ℕ) → left ≡ suc less → nextServed (now .counts .tasks) (served now 0) ≡ Runs j
+      → Serves k first less (withServed (grantTo j (served now 0)) now) (put j g)
+  unfolding grantTo
+  serves-turn j less l e =
+      let n = k .counts .tasks in
+      let q : serve n less (grantTo j (served now g)) ≡ serve n left (served now g) = rw l (sym (serve-grant n less (served now g) j (counted e))) in
+      record {
+        waits = waits-kept now (h .waits) j (next-right (now .counts .tasks) (served now 0) j e .1);
+        counts = h .counts;
+        state = ap (λ (p : Served). withServed p now) q ∙ h .state;
+        granted = ap (λ (p : Served). p .granted) q ∙ h .granted;
+      }
 
 -- ---- where nobody waits
 

@@ -7,14 +7,14 @@ use lib.Dec.{leb, ltb}
 use borrow.Author.Tests.{leb-true}
 use Rattle.record.specs.Lists.{distinct}
 use Rattle.record.specs.Refusals.{mostNumbers}
-use Rattle.lock.specs.Locks.{mostLocks, waiting, every, grantable}
+use Rattle.lock.specs.Locks.{mostLocks, waiting, every}
 use Rattle.lock.specs.declared.Locks.{Locks}
 use Rattle.lock.proofs.Bools.{byEq, both, and-both, or-then}
 use Rattle.lock.proofs.Lists.{every-more}
 use Rattle.task.specs.State.{wanted}
 use Rattle.task.specs.declared.Task.{Task}
 use Rattle.machine.specs.State.{mostTasks, taskAt, countOf}
-use Rattle.machine.specs.Granting.{couldBeGranted, servable}
+use Rattle.machine.specs.Granting.{available, couldBeGranted, servable}
 use Rattle.machine.specs.Serving.{grantTo}
 use Rattle.machine.specs.Test.{between, allBelow, countsOk, waitOk}
 use Rattle.machine.specs.declared.Counts.{Counts}
@@ -66,6 +66,7 @@ module _ (n : ℕ) (ts : List Task) (r : Locks) (i : ℕ) where
   pub servable-idle : waiting (taskAt ts i .wait) ≡ false → servable n ts r i ≡ false
   servable-idle e = rw e
 
-  pub servable-as : waiting (taskAt ts i .wait) ≡ true → servable n ts r i ≡ grantable (taskAt ts i .wait) r (wanted (taskAt ts i))
+  pub servable-each : waiting (taskAt ts i .wait) ≡ true
+      → servable n ts r i ≡ every (available n ts r (taskAt ts i .current) (taskAt ts i .wait)) (wanted (taskAt ts i))
   unfolding couldBeGranted
-  servable-as e = rw e
+  servable-each e = rw e

@@ -17,6 +17,8 @@ use machine::Answer;
 use machine::Running;
 use machine::State;
 use machine::Stepped;
+use survey::granting::Asker;
+use survey::granting::is_available;
 use survey::scan::can_run;
 use survey::scan::no_lead;
 use survey::scan::places;
@@ -50,7 +52,7 @@ pub fn is_someone(r: Running) -> bool
 }
 
 // The most urgent task that waits on a list that could be granted, held or not. A task is given up at the first
-// number of its list that isn't free.
+// number of its list that isn't there for it.
 fn next_served(k: State) -> Running
     requires { ⌜ waitsOk k ≡ true ⌝ }
     ensures { λ r. ⌜ r ≡ nextServed (k .counts .tasks) (served k 0) ⌝ }
@@ -65,22 +67,24 @@ fn next_served(k: State) -> Running
         if !is_waiting(wait) {
             continue 'tasks;
         }
-        let u = urgency_of(k.tasks[i].current, i);
+        let priority = k.tasks[i].current;
+        let u = urgency_of(priority, i);
         if lead.urgency <= u {
             continue 'tasks;
         }
         let m = k.tasks[i].len as usize;
         let t = k.tasks[i];
         let list = t.list;
+        let by = Asker { priority };
         for j in 0..m {
             let x = list[j] as usize;
-            if !locks.can_move(Way::Take, wait, x) {
+            if !is_available(locks, by, wait, x) {
                 continue 'tasks;
             }
         }
         lead = lead.against(true, u, i);
     }
-    lead.who
+    lead.who()
 }
 
 // Task i is granted the whole list that it waits on.
@@ -102,14 +106,16 @@ fn grant_to(mut k: State, i: usize) -> State
     k
 }
 
-// While there is one to be served, the next is granted.
+// While there is one to be served, the next is granted. Each grant ends a wait, so as many turns as tasks are enough.
 fn serve(k: State, granted: u32) -> Serviced
     requires { ⌜ waitsOk k ≡ true ⌝ }
     ensures { λ r. ⌜ (r .state ≡ withServed (servedOf k granted) k) × (r .granted ≡ servedOf k granted .granted) ⌝ }
 {
+    let counts = k.counts;
+    let turns = counts.tasks as usize;
     let mut now = k;
     let mut g = granted;
-    loop {
+    for turn in 0..turns {
         let next = next_served(now);
         let Running::Runs(i) = next else {
             return Serviced {
@@ -120,6 +126,10 @@ fn serve(k: State, granted: u32) -> Serviced
         let at = i as usize;
         now = grant_to(now, at);
         g = put_task(at, g);
+    }
+    Serviced {
+        state: now,
+        granted: g,
     }
 }
 
@@ -205,7 +215,7 @@ pub fn finished(k: State, m: Marks) -> Stepped
             return finished_serving(k, m);
         }
     }
-    let runner = lead.who;
+    let runner = lead.who();
     Stepped {
         state: begun_at(k, k.now),
         answer: answer_of(0, runner, m),

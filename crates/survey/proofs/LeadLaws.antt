@@ -8,7 +8,7 @@ use native.Mathlib.Numerals.{add-one}
 use native.Mathlib.Omega.{arith}
 use lib.Dec.{leb, ltb}
 use lib.ListN.{length, List·getD-eq-default}
-use borrow.Author.Tests.{lt-ltb, le-ltb, leb-true, leb-false}
+use borrow.Author.Tests.{lt-ltb, le-ltb, lt-leb, leb-true, leb-false}
 use Rattle.lock.proofs.Bools.{byBool, byEq}
 use Rattle.task.specs.State.{noTask, runnable}
 use Rattle.task.specs.declared.Task.{Task}
@@ -16,47 +16,48 @@ use Rattle.machine.specs.State.{mostTasks, taskAt}
 use Rattle.machine.specs.Running.{urgency, better, mostUrgent, runningOf}
 use Rattle.machine.specs.declared.Running.{Running}
 use Rattle.machine.specs.declared.Running.the-variants.{Idle, Runs}
-use Rattle.survey.specs.Leads.{nobody, noLead, leadOf, against}
+use Rattle.survey.specs.Leads.{nobody, noLead, leadOf, against, whose, Leads}
 use Rattle.survey.specs.declared.scan.Lead.{Lead}
 
 -- The lead among the first n places, of those that pass a test.
-unfoldable pub led : ℕ → (ℕ → Bool) → List Task → Lead
-led n test ts = leadOf (urgency ts) (mostUrgent n test (urgency ts))
-
-pub lead-who : (u : ℕ → ℕ) (r : Running) → leadOf u r .who ≡ r
-unfolding leadOf
-lead-who u Idle = refl
-lead-who u (Runs i) = refl
-
-pub led-who : (n : ℕ) (test : ℕ → Bool) (ts : List Task) → led n test ts .who ≡ mostUrgent n test (urgency ts)
-unfolding led
-led-who n test ts = lead-who (urgency ts) _
+abbrev pub Led : ℕ → (ℕ → Bool) → List Task → Lead → Type 0
+Led n test ts l = Leads (urgency ts) (mostUrgent n test (urgency ts)) l
 
 -- ---- one more place
 
-pub led-none : (test : ℕ → Bool) (ts : List Task) → led 0 test ts ≡ noLead
-unfolding led leadOf mostUrgent
-led-none test ts = refl
+pub leads-nobody : (u : ℕ → ℕ) → Leads u Idle noLead
+unfolding leadOf whose
+leads-nobody u = record { lead = refl; who = refl }
+
+pub leads-one : (u : ℕ → ℕ) (i : ℕ) → u i < nobody → Leads u (Runs i) (record { urgency = u i; task = i })
+unfolding leadOf whose
+leads-one u i b = record { lead = refl; who = rw (lt-leb _ _ b) }
+
+pub led-none : (test : ℕ → Bool) (ts : List Task) {l : Lead} → l ≡ noLead → Led 0 test ts l
+unfolding mostUrgent
+led-none test ts e = rw e (leads-nobody (urgency ts))
+
+-- A task that counts is held against the lead.
+leads-better : (u : ℕ → ℕ) (i : ℕ) → u i < nobody → (r : Running) (l : Lead) → Leads u r l → Leads u (better u r i) (against l true (u i) i)
+unfolding leadOf against
+leads-better u i b Idle l h = rw (h .lead, lt-ltb _ _ b) (leads-one u i b)
+leads-better u i b (Runs j) l h =
+    byBool (ltb (u i) (u j)) (λ e. rw (h .lead, e) (leads-one u i b)) (λ e. rw (h .lead, e) (rw (h .lead) at h))
 
 module _ (test : ℕ → Bool) (ts : List Task) (i : ℕ) where
-  led-next : urgency ts i < nobody → against (led i test ts) (test i) (urgency ts i) i ≡ led (i + 1) test ts
-  unfolding led leadOf against mostUrgent
-  led-next b = byBool (test i) (λ e. rw (add-one, e) (go (mostUrgent i test (urgency ts)))) (λ e. rw (add-one, e))
-    where
-      go : (r : Running) → against (leadOf (urgency ts) r) true (urgency ts i) i ≡ leadOf (urgency ts) (better (urgency ts) r i)
-      go Idle = rw (lt-ltb _ _ b)
-      go (Runs j) = byBool (ltb (urgency ts i) (urgency ts j)) (λ e. rw e) (λ e. rw e)
+  pub led-passed : {l : Lead} → test i ≡ false → Led i test ts l → Led (i + 1) test ts l
+  unfolding mostUrgent
+  led-passed e h = rw (add-one, e) h
 
   -- The lead r that a scan has once it has looked at task i: b is what the test said, u the urgency.
   pub led-more : {b : Bool} {u : ℕ} {lead r : Lead}
-      → b ≡ test i → (u ≡ mostTasks * taskAt ts i .current + i) × (u < nobody) → lead ≡ led i test ts → r ≡ against lead b u i
-      → r ≡ led (i + 1) test ts
-  unfolding urgency
-  led-more e v l q = rw (← led-next (rw (v .0) at (v .1)), ← e, ← v .0, ← l) q
-
-  pub led-passed : test i ≡ false → led (i + 1) test ts ≡ led i test ts
-  unfolding led mostUrgent
-  led-passed e = rw (add-one, e)
+      → b ≡ test i → (u ≡ mostTasks * taskAt ts i .current + i) × (u < nobody) → Led i test ts lead → r ≡ against lead b u i
+      → Led (i + 1) test ts r
+  unfolding urgency mostUrgent against
+  led-more {lead = lead} e v h q =
+      byBool (test i)
+      (λ t. rw (q, e, v .0, add-one, t) (leads-better (urgency ts) i (rw (v .0) at (v .1)) _ lead h))
+      (λ t. rw (q, e, add-one, t) h)
 
 -- A task that is no more urgent leaves the lead as it was.
 pub against-later : (l : Lead) (b : Bool) (u i : ℕ) → l .urgency ≤ u → against l b u i ≡ l
@@ -86,6 +87,6 @@ runs-clipped ts e n =
 
 -- The lead among the places of the table runs.
 pub led-runs : (ts : List Task) → length ts ≡ mostTasks → (n i : ℕ) {m : ℕ} {lead : Lead} → m ≡ min n mostTasks → i ≤ m → m ≤ i
-    → lead ≡ led i (canRun ts) ts → lead .who ≡ runningOf n ts
+    → Led i (canRun ts) ts lead → whose lead ≡ runningOf n ts
 led-runs ts f n i e a b l =
-    rw (l, le-antisymm a b, e) (led-who (min n mostTasks) (canRun ts) ts ∙ (unfold runningOf in runs-clipped ts f n))
+    l .who ∙ rw (le-antisymm a b, e) (unfold runningOf in runs-clipped ts f n)

@@ -1,12 +1,13 @@
--- What owning a kernel by value tells of its semaphores and bolts: a value, and a number of readers, is a u16.
--- With s the start of a function whose first parameter is the kernel, `(s .good .0 .0, s .good .0 .1 .1)` is an `Owned k`.
-use mathlib.Core.Path.{_≡_}
+-- What owning a kernel by value tells: how long its tables are, how long the list of a task that waits, and that a value
+-- and a number of readers are a u16. With s the start of a function whose first parameter is the kernel,
+-- `(s .good .0 .0, s .good .0 .1 .1)` is an `Owned k`.
+use mathlib.Core.Path.{_≡_, refl, sym, _∙_}
 use mathlib.Core.Bool.{true}
 use mathlib.Core.List.{List, [], _∷_, map}
 use Prim.Native.Nat.{ℕ, zero, suc, _<_}
 use native.Mathlib.Omega.{arith}
 use lib.Dec.{leb}
-use lib.ListN.{getD}
+use lib.ListN.{length, length-map, getD}
 use mir.Val.{Val}
 use mir.Syntax.{w16}
 use denote.Shadow.{shadow}
@@ -16,9 +17,14 @@ use denote.Struct.Declared.{shape}
 use borrow.Author.Needs.{elem-fits-field}
 use borrow.Author.Tests.{le-leb}
 use Rattle.record.specs.Refusals.{mostValue}
-use Rattle.lock.specs.Locks.{emptyBolt, valueAt, boltAt}
+use Rattle.lock.specs.Locks.{emptyBolt, waiting, valueAt, boltAt}
 use Rattle.lock.specs.declared.Bolt.{Bolt}
 use Rattle.lock.proofs.Bolt as BoltT
+use Rattle.lock.proofs.Bools.{contra}
+use Rattle.task.specs.declared.Task.{Task}
+use Rattle.task.proofs.Task as TaskT
+use Rattle.machine.specs.Invariants.{Tables}
+use Rattle.machine.specs.State.{mostTasks, taskAt}
 use Rattle.machine.specs.Test.{allBelow}
 use Rattle.machine.specs.declared.State.{State}
 use Rattle.machine.proofs.State as KernelT
@@ -26,6 +32,16 @@ use Rattle.machine.proofs.Below.{all-from}
 
 abbrev pub Owned : State → Type 0
 Owned k = (v : Valss (shape KernelT.the-type .fields)) × shadow (owns (shape KernelT.the-type .fields) (KernelT.the-type .to k) v)
+
+-- The list of each task of a table that waits.
+lists-long :
+    (ts : List Task) (us : List Val) →
+    shadow (each (TaskT.the-field .row .Denot) (TaskT.the-field .row .own) (map (TaskT.the-field .into) ts) us) →
+    (i : ℕ) → waiting (taskAt ts i .wait) ≡ true → length (taskAt ts i .list) ≡ 4
+lists-long [] us p i = λ w. contra w refl
+lists-long (t ∷ ts) [] p i = absurd p
+lists-long (t ∷ ts) (u ∷ us) p zero = λ w. sym (length-map (t .list) _) ∙ p .0 .1 .1 .1 .1 .1 .1 .1 .1 .0 .1 .0 .1
+lists-long (t ∷ ts) (u ∷ us) p (suc i) = lists-long ts us (p .1) i
 
 -- The readers of each bolt of a table.
 readers-fit :
@@ -38,6 +54,21 @@ readers-fit (b ∷ bs) (u ∷ us) p zero = p .0 .1 .1 .1 .0 .1
 readers-fit (b ∷ bs) (u ∷ us) p (suc i) = readers-fit bs us (p .1) i
 
 module _ (k : State) (g : Owned k) where
+  pub tables-long : Tables k
+  tables-long =
+      record {
+        tasks = sym (length-map (k .tasks) _) ∙ g .1 .0 .1 .0 .1;
+        semaphores = let l = g .1 .1 .0 .1 .1 .0 in sym (length-map (k .locks .semaphores) _) ∙ l .1 .0 .1;
+        bolts = let l = g .1 .1 .0 .1 .1 .1 .0 in sym (length-map (k .locks .bolts) _) ∙ l .1 .0 .1;
+        enabled = let l = g .1 .1 .1 .0 in sym (length-map (k .enabled) _) ∙ l .1 .0 .1;
+      }
+
+  pub tasks-long : length (k .tasks) ≡ mostTasks
+  tasks-long = tables-long .tasks
+
+  pub list-long : (i : ℕ) → waiting (taskAt (k .tasks) i .wait) ≡ true → length (taskAt (k .tasks) i .list) ≡ 4
+  list-long i = lists-long (k .tasks) (g .1 .0 .0) (g .1 .0 .1 .1) i
+
   value-fits : (i : ℕ) → valueAt (k .locks) i < 65536
   value-fits i =
       let l = g .1 .1 .0 .1 .1 .0 in

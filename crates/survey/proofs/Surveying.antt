@@ -1,10 +1,9 @@
 -- The survey of a kernel: what one task adds, and what the whole says.
-use mathlib.Core.Path.{_≡_, refl, sym, _∙_}
+use mathlib.Core.Path.{_≡_, refl, _∙_}
 use mathlib.Core.Bool.{Bool, true, false, not, _&&_, _||_, or-false}
 use Prim.Native.Nat.{ℕ, _+_, _*_, _≤_, _<_}
 use native.Mathlib.Nat.{le-antisymm}
 use native.Mathlib.Numerals.{add-one}
-use native.Mathlib.Omega.{arith}
 use Rattle.calendar.specs.Limits.{tick}
 use Rattle.calendar.specs.Times.{duration, plus}
 use Rattle.calendar.specs.declared.Instant.{Instant}
@@ -18,17 +17,17 @@ use Rattle.machine.specs.Running.{runningOf, runner}
 use Rattle.machine.specs.Test.{allBelow, valid}
 use Rattle.machine.specs.declared.State.{State}
 use Rattle.machine.specs.declared.Running.{Running}
-use Rattle.survey.specs.Leads.{nobody, noLead, against}
+use Rattle.survey.specs.Leads.{nobody, noLead, against, whose}
 use Rattle.survey.specs.Looks.{stirsNext, unfit, surveyed}
 use Rattle.survey.specs.declared.scan.Lead.{Lead}
-use Rattle.survey.proofs.LeadLaws.{led, canRun, led-none, led-who, led-more}
+use Rattle.survey.proofs.LeadLaws.{Led, canRun, led-none, led-more}
 use Rattle.survey.proofs.TestLaws.{fitAt, Upto, upto-none, upto-passes}
 
 -- What the scan knows of the tasks below i: all are fit, whether one comes at x, and who leads of those that can run.
 pub record Looked (day : ℕ) (k : State) (x : Instant) (i : ℕ) (stirs : Bool) (lead : Lead) : Type 0 where
   pub tasks : Upto (fitAt day k) (k .counts .tasks) i
   pub comings : stirs ≡ not (allBelow i (λ j. not (comes x (taskAt (k .tasks) j))))
-  pub leads : lead ≡ led i (canRun (k .tasks)) (k .tasks)
+  pub leads : Led i (canRun (k .tasks)) (k .tasks) lead
 
 -- One part of one task: e is what its test said, or it has no such part.
 pub stirs-more : {a b c d e : Bool} → b ≡ a → c ≡ (b || e) → e ≡ d → c ≡ (a || d)
@@ -40,7 +39,7 @@ stirs-same {a} p q r = q ∙ p ∙ rw (r, or-false a)
 module _ (day : ℕ) (k : State) (x : Instant) where
   pub looked-none : Looked day k x 0 false noLead
   unfolding allBelow
-  looked-none = record { tasks = upto-none _ _; comings = refl; leads = sym (led-none _ _) }
+  looked-none = record { tasks = upto-none _ _; comings = refl; leads = led-none _ _ refl }
 
   module _ {i : ℕ} {stirs : Bool} {lead : Lead} (p : Looked day k x i stirs lead) where
     pub looked-next :
@@ -72,9 +71,9 @@ module _ (day : ℕ) (k : State) (x : Instant) where
       unfolding stirsNext
       looked-stirs e = p .comings ∙ rw (last, e)
 
-      pub looked-runs : lead .who ≡ runner k
+      pub looked-runs : whose lead ≡ runner k
       unfolding runningOf
-      looked-runs = rw (p .leads, last) (led-who (k .counts .tasks) (canRun (k .tasks)) (k .tasks))
+      looked-runs = p .leads .who ∙ rw last
 
 -- ---- the whole
 

@@ -1,9 +1,10 @@
 -- One task in the kernel test: by its priorities, by its schedule, by a start kept back, and by whether it is at ease.
 use mathlib.Core.Path.{_≡_, refl}
 use mathlib.Core.Bool.{Bool, true, false, not, _&&_, _||_, and-true, and-false, and-assoc, or-true, or-false}
+use mathlib.Core.List.{List}
 use Prim.Native.Nat.{ℕ}
 use Rattle.calendar.specs.declared.Instant.{Instant}
-use Rattle.lock.specs.Locks.{waiting, grantable}
+use Rattle.lock.specs.Locks.{waiting}
 use Rattle.lock.specs.declared.Locks.{Locks}
 use Rattle.lock.specs.declared.Wait.{Wait}
 use Rattle.lock.specs.declared.Wait.the-variants.{Nothing, Request, Reserve, Enter}
@@ -18,13 +19,14 @@ use Rattle.task.specs.declared.Kept.{Kept}
 use Rattle.task.specs.declared.Kept.the-variants.{Empty, Back}
 use Rattle.task.specs.declared.Schedule.{Schedule}
 use Rattle.task.specs.declared.Task.{Task}
+use Rattle.machine.specs.Granting.{couldBeGranted}
 use Rattle.machine.specs.Test.{isPriority, keptOk, holdOk, scheduleOk, taskOk}
 use Rattle.machine.specs.declared.Counts.{Counts}
 use Rattle.survey.specs.Looks.{atEase, waitSettled, busyOk}
 
 -- It passes its test and doesn't wait on a list that could be granted.
-unfoldable pub fit : ℕ → Counts → Locks → Task → Bool
-fit day n r t = taskOk day n t && not (waiting (t .wait) && grantable (t .wait) r (wanted t))
+unfoldable pub fit : ℕ → Counts → List Task → Locks → Task → Bool
+fit day n ts r t = taskOk day n t && not (waiting (t .wait) && couldBeGranted (n .tasks) ts r (t .current) (t .wait) (wanted t))
 
 -- ---- no schedule
 
@@ -71,20 +73,20 @@ eased-runs t e = let q = eased (t .wait) (t .hold) e in rw (q .free, q .waits, a
 
 -- ---- one task
 
-pub busy-left : (n : Counts) (r : Locks) (t : Task) → t .alive ≡ true → holdOk (t .hold) ≡ true → busyOk n r t ≡ waitSettled n r t
+pub busy-left : (n : Counts) (ts : List Task) (r : Locks) (t : Task) → t .alive ≡ true → holdOk (t .hold) ≡ true → busyOk n ts r t ≡ waitSettled n ts r t
 unfolding busyOk
-busy-left n r t a h = rw (a, h)
+busy-left n ts r t a h = rw (a, h)
 
-module _ (day : ℕ) (n : Counts) (r : Locks) (t : Task) where
-  pub odd-priority : (isPriority (t .declared) && isPriority (t .current)) ≡ false → fit day n r t ≡ false
+module _ (day : ℕ) (n : Counts) (ts : List Task) (r : Locks) (t : Task) where
+  pub odd-priority : (isPriority (t .declared) && isPriority (t .current)) ≡ false → fit day n ts r t ≡ false
   unfolding fit taskOk
   odd-priority e = rw e
 
-  pub odd-schedule : scheduleOk day (n .interrupts) (t .schedule) ≡ false → fit day n r t ≡ false
+  pub odd-schedule : scheduleOk day (n .interrupts) (t .schedule) ≡ false → fit day n ts r t ≡ false
   unfolding fit taskOk
   odd-schedule e = rw (e, and-false)
 
-  pub odd-kept : isKept (t .kept) ≡ true → (t .alive && keptOk (t .kept)) ≡ false → fit day n r t ≡ false
+  pub odd-kept : isKept (t .kept) ≡ true → (t .alive && keptOk (t .kept)) ≡ false → fit day n ts r t ≡ false
   unfolding fit taskOk
   odd-kept k e = rw (k, or-false) (go (isPriority (t .declared) && isPriority (t .current)) (keptOk (t .kept)) (holdOk (t .hold)) (t .alive) _ _ _ e)
     where
@@ -92,7 +94,7 @@ module _ (day : ℕ) (n : Counts) (r : Locks) (t : Task) where
       go p k h false w s g e = rw and-false
       go p k h true w s g e = rw (e, and-false)
 
-  pub odd-busy : atEase (t .wait) (t .hold) ≡ false → busyOk n r t ≡ false → fit day n r t ≡ false
+  pub odd-busy : atEase (t .wait) (t .hold) ≡ false → busyOk n ts r t ≡ false → fit day n ts r t ≡ false
   unfolding fit taskOk busyOk waitSettled
   odd-busy e = rw (and-assoc (not (isKept (t .kept))), e, and-false, or-false) (go (isPriority (t .declared) && isPriority (t .current) && keptOk (t .kept)) (holdOk (t .hold)) (t .alive) _ _ _)
     where
@@ -108,13 +110,13 @@ module _ (day : ℕ) (n : Counts) (r : Locks) (t : Task) where
       (priorities : (isPriority (t .declared) && isPriority (t .current)) ≡ true)
       (schedule : scheduleOk day (n .interrupts) (t .schedule) ≡ true)
       (start : Starts (t .alive) (t .kept)) where
-    pub fit-eased : atEase (t .wait) (t .hold) ≡ true → fit day n r t ≡ true
+    pub fit-eased : atEase (t .wait) (t .hold) ≡ true → fit day n ts r t ≡ true
     unfolding fit taskOk
     fit-eased e =
         let q = eased (t .wait) (t .hold) e in
         rw (priorities, start .kept, q .hold, and-assoc (not (isKept (t .kept))), e, and-true, start .lives, q .waits, schedule)
 
-    pub fit-busy : busyOk n r t ≡ true → fit day n r t ≡ true
+    pub fit-busy : busyOk n ts r t ≡ true → fit day n ts r t ≡ true
     unfolding fit taskOk busyOk waitSettled
     fit-busy = rw (priorities, schedule, start .kept) (go (holdOk (t .hold)) (t .alive) _ _ _)
       where

@@ -13,7 +13,7 @@ use borrow.Author.Tests.{leb-true, not-true, not-false}
 use Rattle.calendar.specs.Limits.{lastInstant, isTimeOfDay}
 use Rattle.record.specs.Lists.{distinct}
 use Rattle.record.specs.Refusals.{mostNumbers}
-use Rattle.lock.specs.Locks.{mostLocks, waiting, every, grantable}
+use Rattle.lock.specs.Locks.{mostLocks, waiting, every}
 use Rattle.lock.specs.declared.Locks.{Locks}
 use Rattle.lock.proofs.Bools.{byBool, contra, both, and-both}
 use Rattle.lock.proofs.Lists.{every-more}
@@ -99,28 +99,28 @@ pub settled-below :
 settled-below n t f {m} {e} count below h =
     every-more m mostLocks (wanted t) (rw count (count-fits n (counts-fit n f) (t .wait))) (sym below ∙ not-false e h)
 
-module _ (n : Counts) (r : Locks) (t : Task) {w : Bool} (waits : w ≡ waiting (t .wait)) where
-  pub settled-none : not w ≡ true → true ≡ waitSettled n r t
+module _ (n : Counts) (ts : List Task) (r : Locks) (t : Task) {w : Bool} (waits : w ≡ waiting (t .wait)) where
+  pub settled-none : not w ≡ true → true ≡ waitSettled n ts r t
   unfolding waitSettled
   settled-none a = rw (← waits, not-true w a)
 
   module _ (a : not w ≡ false) where
-    pub settled-long : not (between 1 mostNumbers (t .len)) ≡ true → false ≡ waitSettled n r t
+    pub settled-long : not (between 1 mostNumbers (t .len)) ≡ true → false ≡ waitSettled n ts r t
     unfolding waitSettled
     settled-long b = rw (← waits, not-false w a, not-true (between 1 mostNumbers (t .len)) b)
 
     module _ (b : not (between 1 mostNumbers (t .len)) ≡ false) {d : Bool} (once : d ≡ distinct (wanted t)) where
-      pub settled-twice : not d ≡ true → false ≡ waitSettled n r t
+      pub settled-twice : not d ≡ true → false ≡ waitSettled n ts r t
       unfolding waitSettled
       settled-twice f = rw (← waits, not-false w a, not-false (between 1 mostNumbers (t .len)) b, ← once, not-true d f)
 
       module _ (f : not d ≡ false) {m : ℕ} {e : Bool} (count : m ≡ countOf n (t .wait)) (below : e ≡ every (λ x. ltb x m) (wanted t)) where
-        pub settled-unknown : not e ≡ true → false ≡ waitSettled n r t
+        pub settled-unknown : not e ≡ true → false ≡ waitSettled n ts r t
         unfolding waitSettled
         settled-unknown h =
             rw (← waits, not-false w a, not-false (between 1 mostNumbers (t .len)) b, ← once, not-false d f, ← count, ← below, not-true e h)
 
-        pub settled-each : not e ≡ false → {g : Bool} → g ≡ grantable (t .wait) r (wanted t) → not g ≡ waitSettled n r t
+        pub settled-each : not e ≡ false → {g : Bool} → g ≡ couldBeGranted (n .tasks) ts r (t .current) (t .wait) (wanted t) → not g ≡ waitSettled n ts r t
         unfolding waitSettled
         settled-each h said =
             rw (← waits, not-false w a, not-false (between 1 mostNumbers (t .len)) b, ← once, not-false d f, ← count, ← below, not-false e h, said)
@@ -135,7 +135,7 @@ wait-of day n t e =
     both r (waitOk n t) (both (r && waitOk n t) s e .0) .1
 
 abbrev pub fitAt : ℕ → State → ℕ → Bool
-fitAt day k i = fit day (k .counts) (k .locks) (taskAt (k .tasks) i)
+fitAt day k i = fit day (k .counts) (k .tasks) (k .locks) (taskAt (k .tasks) i)
 
 -- The test of a kernel by its parts: o and c are what the tests of clock and counts said.
 module _ (day : ℕ) (k : State) {o c : Bool} (clock : o ≡ isTimeOfDay day (k .clock)) (counts : c ≡ countsOk (k .counts)) where
@@ -157,7 +157,7 @@ module _ (day : ℕ) (k : State) {o c : Bool} (clock : o ≡ isTimeOfDay day (k 
     tasks-fit = counts-fit (k .counts) counted .tasks
 
     pub all-fit : Owned k → allBelow (k .counts .tasks) (fitAt day k) ≡ valid day k
-    unfolding valid nobodyServable couldBeGranted fit
+    unfolding valid nobodyServable fit
     all-fit g =
         rw (← clock, ← counts, in-range, values-small k g (k .counts .semaphores), readers-small k g (k .counts .bolts))
         (sym (all-both (k .counts .tasks) (λ i. taskOk day (k .counts) (taskAt (k .tasks) i)) _))

@@ -1,7 +1,8 @@
--- Who leads a scan of the tasks, and how urgent that task is.
+-- The task that leads a scan, and how urgent it is.
+use mathlib.Core.Path.{_≡_}
 use mathlib.Core.Bool.{Bool, cond, _&&_}
 use Prim.Native.Nat.{ℕ}
-use lib.Dec.{ltb}
+use lib.Dec.{leb, ltb}
 use Rattle.machine.specs.declared.Running.{Running}
 use Rattle.machine.specs.declared.Running.the-variants.{Idle, Runs}
 use Rattle.survey.specs.declared.scan.Lead.{Lead}
@@ -11,13 +12,21 @@ abbrev pub nobody : ℕ
 nobody = 8192
 
 abbrev pub noLead : Lead
-noLead = record { urgency = nobody; who = Idle }
+noLead = record { urgency = nobody; task = 0 }
+
+-- A task i of urgency u is held against the lead, if it counts.
+unfoldable pub against : Lead → Bool → ℕ → ℕ → Lead
+against l counts u i = cond (counts && ltb u (l .urgency)) (record { urgency = u; task = i }) l
+
+-- Who leads.
+unfoldable pub whose : Lead → Running
+whose l = cond (leb nobody (l .urgency)) Idle (Runs (l .task))
 
 -- The lead of whom a scan has found, by the urgencies u.
 unfoldable pub leadOf : (ℕ → ℕ) → Running → Lead
 leadOf u Idle = noLead
-leadOf u (Runs i) = record { urgency = u i; who = Runs i }
+leadOf u (Runs i) = record { urgency = u i; task = i }
 
--- A task i of urgency u is held against the lead, if it counts.
-unfoldable pub against : Lead → Bool → ℕ → ℕ → Lead
-against l counts u i = cond (counts && ltb u (l .urgency)) (record { urgency = u; who = Runs i }) l
+pub record Leads (u : ℕ → ℕ) (r : Running) (l : Lead) : Type 0 where
+  pub lead : l ≡ leadOf u r
+  pub who : whose l ≡ r

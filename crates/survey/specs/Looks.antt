@@ -1,9 +1,10 @@
 -- Names for contracts: what one look at a kernel tells.
 use mathlib.Core.Bool.{Bool, true, false, not, cond, _&&_}
+use mathlib.Core.List.{List}
 use Prim.Native.Nat.{ℕ}
 use Rattle.calendar.specs.Limits.{tick}
 use Rattle.calendar.specs.Times.{duration, plus}
-use Rattle.lock.specs.Locks.{waiting, grantable}
+use Rattle.lock.specs.Locks.{waiting}
 use Rattle.lock.specs.declared.Locks.{Locks}
 use Rattle.lock.specs.declared.Wait.{Wait}
 use Rattle.task.specs.State.{unheld, wanted}
@@ -12,6 +13,7 @@ use Rattle.task.specs.declared.Hold.{Hold}
 use Rattle.task.specs.declared.Task.{Task}
 use Rattle.machine.specs.Sets.{put}
 use Rattle.machine.specs.State.{taskAt}
+use Rattle.machine.specs.Granting.{couldBeGranted}
 use Rattle.machine.specs.Running.{runner}
 use Rattle.machine.specs.Test.{allBelow, countsOk, holdOk, waitOk, valid}
 use Rattle.machine.specs.declared.Counts.{Counts}
@@ -35,12 +37,13 @@ abbrev pub atEase : Wait → Hold → Bool
 atEase w h = not (waiting w) && unheld h
 
 -- It waits for nothing, or on a list in order that could not be granted.
-unfoldable pub waitSettled : Counts → Locks → Task → Bool
-waitSettled n r t = waitOk n t && not (waiting (t .wait) && grantable (t .wait) r (wanted t))
+unfoldable pub waitSettled : Counts → List Task → Locks → Task → Bool
+waitSettled n ts r t =
+    waitOk n t && not (waiting (t .wait) && couldBeGranted (n .tasks) ts r (t .current) (t .wait) (wanted t))
 
 -- What the test asks of a task that isn't at ease, beside its priorities, its schedule and a start kept back.
-unfoldable pub busyOk : Counts → Locks → Task → Bool
-busyOk n r t = t .alive && holdOk (t .hold) && waitSettled n r t
+unfoldable pub busyOk : Counts → List Task → Locks → Task → Bool
+busyOk n ts r t = t .alive && holdOk (t .hold) && waitSettled n ts r t
 
 -- ---- all of it
 

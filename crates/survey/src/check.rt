@@ -1,15 +1,19 @@
 // The kernel test: what passes it isn't refused with 1.
 ghost use mathlib.Core.Path.{_≡_};
 ghost use mathlib.Core.Bool.{true, _&&_};
+ghost use mathlib.Core.List.{List};
 ghost use Prim.Native.Nat.{_≤_};
 ghost use lib.Dec.{ltb};
 ghost use lib.ListN.{take};
 ghost use Rattle.lock.specs.Locks.{every};
+ghost use Rattle.task.specs.declared.Task.{Task};
 ghost use Rattle.survey.specs.Looks.{atEase, waitSettled, busyOk};
 ghost use Rattle.calendar.specs.Limits.{day};
 ghost use Rattle.task.specs.Alarms.{planned};
 ghost use Rattle.machine.specs.State.{countOf};
 ghost use Rattle.machine.specs.Test.{isPriority, isStored, holdOk, keptOk, endOk, momentOk, listenerOk, alarmOk, lastOk, termsOk, scheduleOk, countsOk};
+use crate::granting::Asker;
+use crate::granting::could_be_granted;
 use calendar::End;
 use calendar::Instant;
 use calendar::LONGEST_DURATION;
@@ -22,7 +26,6 @@ use layout::Numbers;
 use lock::Locks;
 use lock::MOST_LOCKS;
 use lock::Wait;
-use lock::Way;
 use lock::is_waiting;
 use machine::Counts;
 use machine::MOST_INTERRUPTS;
@@ -195,7 +198,7 @@ pub fn are_below(list: Numbers, n: usize, most: u8) -> bool
 // A wait's list names one to four numbers, none twice, all declared, and could not be granted.
 fn is_wait_settled(n: Counts, locks: Locks, t: Task) -> bool
     requires { ⌜ countsOk n ≡ true ⌝ }
-    ensures { λ r. ⌜ r ≡ waitSettled n locks t ⌝ }
+    ensures { λ r. ⌜ ((ts : List Task) → r ≡ waitSettled n ts locks t) ⌝ }
 {
     let wait = t.wait;
     if !is_waiting(wait) {
@@ -212,13 +215,16 @@ fn is_wait_settled(n: Counts, locks: Locks, t: Task) -> bool
     if !are_below(list, len, count_of(n, wait)) {
         return false;
     }
-    !locks.can_move_all(Way::Take, wait, len, list)
+    let by = Asker {
+        priority: t.current,
+    };
+    !could_be_granted(locks, by, wait, len, list)
 }
 
 // The test of a task that isn't at ease, beside its priorities, its schedule and a start kept back.
 pub fn is_busy_ok(n: Counts, locks: Locks, t: Task) -> bool
     requires { ⌜ countsOk n ≡ true ⌝ }
-    ensures { λ r. ⌜ r ≡ busyOk n locks t ⌝ }
+    ensures { λ r. ⌜ ((ts : List Task) → r ≡ busyOk n ts locks t) ⌝ }
 {
     let hold = t.hold;
     if !t.alive {

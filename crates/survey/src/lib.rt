@@ -1,5 +1,6 @@
 // One look at a kernel: the kernel test, the running task, and what the next tick would stir.
 pub mod check;
+pub mod granting;
 pub mod look;
 pub mod next;
 pub mod scan;

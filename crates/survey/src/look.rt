@@ -87,11 +87,10 @@ pub fn survey(k: State) -> Survey
         }
         lead = lead.against(runs, urgency_of(current, i), i);
     }
-    let runner = lead.who;
     Survey {
         ok: true,
         stirs,
-        runner,
+        runner: lead.who(),
     }
 }
 

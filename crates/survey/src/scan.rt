@@ -6,7 +6,7 @@ ghost use Rattle.lock.specs.Locks.{waiting};
 ghost use Rattle.task.specs.State.{unheld};
 ghost use Rattle.machine.specs.State.{mostTasks};
 ghost use Rattle.machine.specs.Running.{runner};
-ghost use Rattle.survey.specs.Leads.{nobody, noLead, against};
+ghost use Rattle.survey.specs.Leads.{nobody, noLead, against, whose};
 use lock::Wait;
 use lock::is_waiting;
 use machine::Running;
@@ -18,10 +18,10 @@ const MOST_TASKS: usize = machine::MOST_TASKS as usize;
 // More than the urgency of any task: 32 * 255 + 31 is the largest.
 pub const NOBODY: u32 = 8192;
 
-// Who leads a scan, and how urgent that task is.
+// The task that leads a scan, and how urgent it is.
 pub struct Lead {
     pub urgency: u32,
-    pub who: Running,
+    pub task: u8,
 }
 
 // Nobody leads.
@@ -30,7 +30,7 @@ pub fn no_lead() -> Lead
 {
     Lead {
         urgency: NOBODY,
-        who: Running::Idle,
+        task: 0,
     }
 }
 
@@ -41,10 +41,20 @@ impl Lead {
         ensures { λ r. ⌜ r ≡ against self counts urgency i ⌝ }
     {
         if counts & (urgency < self.urgency) {
-            let who = Running::Runs(i as u8);
-            return Lead { urgency, who };
+            let task = i as u8;
+            return Lead { urgency, task };
         }
         self
+    }
+
+    // The task that leads, or nobody.
+    pub fn who(self) -> Running
+        ensures { λ r. ⌜ r ≡ whose self ⌝ }
+    {
+        if NOBODY <= self.urgency {
+            return Running::Idle;
+        }
+        Running::Runs(self.task)
     }
 }
 
@@ -91,5 +101,5 @@ pub fn running(k: State) -> Running
         let runs = can_run(k.tasks[i].alive, wait, hold);
         lead = lead.against(runs, urgency_of(k.tasks[i].current, i), i);
     }
-    lead.who
+    lead.who()
 }

@@ -6,16 +6,12 @@ use mathlib.Core.Bool.{true}
 use Prim.Native.Nat.{_+_, _≤_, _<_, _-_}
 use native.Mathlib.Nat.{le-antisymm}
 use native.Mathlib.Omega.{arith}
-use lib.Dec.{leb}
 use lib.ListN.{length}
-use borrow.Author.Tests.{leb-true}
 use Rattle.calendar.specs.Limits.{day, lastInstant}
 use Rattle.calendar.specs.declared.Instant.{Instant}
 use Rattle.layout.specs.declared.Mark.the-variants.{TI}
 use Rattle.layout.specs.declared.Call.{Call}
-use Rattle.lock.proofs.Bools.{both}
 use Rattle.task.specs.Turns.{tickTurn}
-use Rattle.task.specs.declared.Turn.{Turn}
 use Rattle.task.proofs.Laws.{still}
 use Rattle.task.proofs.Waits.{no-wait-tick}
 use Rattle.machine.specs.State.{mostTasks, taskAt, withState}
@@ -27,21 +23,17 @@ use Rattle.machine.specs.Calls.{tick}
 use Rattle.machine.specs.Step.{finish, refuse, orRefuse}
 use Rattle.machine.specs.declared.State.{State}
 use Rattle.machine.specs.declared.Running.{Running}
-use Rattle.machine.proofs.Below.{all-at}
-use Rattle.machine.proofs.Facts.{task-untest}
 use Rattle.machine.proofs.Passed.{tested}
-use Rattle.machine.proofs.Turns.{good-tick}
-use Rattle.survey.proofs.KernelFacts.{Good, tasks-long}
+use Rattle.survey.proofs.Owned.{Owned, tasks-long}
 use Rattle.serving.specs.Ends.{marksOf}
-use Rattle.calls.proofs.TurnCases.{sound}
 use Rattle.calls.proofs.EveryTask.{Made, made-none, made-all, made-more, made-still, every-idle, every-unserved, tick-early, tick-late}
-use Rattle.calls.proofs.TickRuns.{Led, led-idle, led-from, led-more, led-still, led-runs, runs-below, unstirred}
+use Rattle.calls.proofs.TickRuns.{Leading, leading-none, leading-from, leading-more, leading-still, runs-below, unstirred}
 use Rattle.calls.proofs.clock.ticked.Statement.{statement}
 use Rattle.calls.proofs.clock.ticked.Tie as tie
 
 abbrev Inv-loop : tie.InvT-loop
 Inv-loop k₀ n most m₀ lead₀ i₀ k m lead i =
-    (i ≤ most) × Made (tickTurn n) k₀ i k m × Led (k .tasks) (k₀ .counts .tasks) lead
+    (i ≤ most) × Made (tickTurn n) k₀ i k m × Leading (k .tasks) (k₀ .counts .tasks) lead
 
 abbrev μ-loop : tie.MeasureT-loop
 μ-loop k₀ n most m₀ lead₀ i₀ k m lead i = most - i
@@ -61,7 +53,7 @@ state p = start p .args .t1
 abbrev moment : P → Instant
 moment p = p .plus .result
 
-good : (p : P) → Good (state p)
+good : (p : P) → Owned (state p)
 good p = (start p .good .0 .0, start p .good .0 .1 .1)
 
 passes : (p : P) → valid day (state p) ≡ true
@@ -117,7 +109,7 @@ made c =
     (λ w. made-still f k i (less l) (l .before .loop .inv .1) (still n t (unstirred n t (sym (c .before .may-stir .ensures) ∙ w .0 .left))) (w .1) (w .2))
     (c .if2 .came)
 
-led : (c : J) → let l = here c in Led (c .if2 .k .tasks) (state (passed l) .counts .tasks) (c .if2 .lead)
+led : (c : J) → let l = here c in Leading (c .if2 .k .tasks) (state (passed l) .counts .tasks) (c .if2 .lead)
 led c =
     let l = here c in
     let p = passed l in
@@ -125,9 +117,9 @@ led c =
     let h = l .before .loop .inv .2 in
     ⊎-elim
     (λ w.
-    led-more (moment p) (k .tasks) (state p .counts .tasks) (l .before .loop .i) (l .loop-test .taken) (fits p) (w .2 .result) (w .2 .ensures)
+    leading-more (moment p) (k .tasks) (state p .counts .tasks) (l .before .loop .i) (l .loop-test .taken) (fits p) (w .2 .result) (w .2 .ensures)
     h (ap (λ (q : State). q .tasks) (w .8)) (w .5 .ensures) (w .6 .ensures) (w .10 ∙ w .7 .ensures))
-    (λ w. led-still h (ap (λ (q : State). q .tasks) (w .1)) (w .3))
+    (λ w. leading-still h (ap (λ (q : State). q .tasks) (w .1)) (w .3))
     (c .if2 .came)
 
 -- Once all have.
@@ -199,8 +191,8 @@ loop-holds c =
       search needs,
       rw (o .before .no-marks .ensures) (made-none _ _),
       ⊎-elim
-          (λ w. led-from (k .tasks) (k .counts .tasks) (w .1 .given .0 .0) (tasks-long k (good p)) (runner-is p (w .1 .given .1)) (w .3 .ensures) (o .no-lead .ensures) (w .5 ∙ w .4 .ensures))
-          (λ w. led-idle (k .tasks) (k .counts .tasks) (tasks-long k (good p)) (runner-is p (w .1 .given .1)) (w .2 ∙ o .no-lead .ensures))
+          (λ w. leading-from (k .tasks) (k .counts .tasks) (w .1 .given .0 .0) (tasks-long k (good p)) (runner-is p (w .1 .given .1)) (w .3 .ensures) (o .no-lead .ensures) (w .5 ∙ w .4 .ensures))
+          (λ w. leading-none (k .tasks) (k .counts .tasks) (tasks-long k (good p)) (runner-is p (w .1 .given .1)) (w .2 ∙ o .no-lead .ensures))
           (c .match .came),
     )
 
@@ -249,6 +241,9 @@ loop-less c = search needs
 loop-again : tie.Need-loop-again Inv-loop μ-loop
 loop-again c = (search needs, made c, led c)
 
+who-requires : tie.Need-who-requires Inv-loop μ-loop
+who-requires c κs = search needs
+
 begun-at-requires : tie.Need-begun-at-requires Inv-loop μ-loop
 begun-at-requires c κs = search needs
 
@@ -257,12 +252,13 @@ answer-of-requires c κs = search needs
 
 returns-2 : tie.Need-returns-2 Inv-loop μ-loop
 returns-2 c =
-    let a = c .before .before in
+    let o = c .before .before in
+    let a = o .before in
     let p = a .before .before .before .before .before .before .before in
     let k = state p in
     let n = moment p in
     let w = all a in
-    let r = led-runs (a .before .loop .inv .2) ∙ ap (λ (q : State). runningOf (k .counts .tasks) (q .tasks)) (w .0) in
+    let r = o .who .ensures ∙ a .before .loop .inv .2 .leads .who ∙ ap (λ (q : State). runningOf (k .counts .tasks) (q .tasks)) (w .0) in
     let idle = every-idle day k (passes p) (tasks-long k (good p)) n (tickTurn n) (λ t. no-wait-tick t n) in
     λ d. rw (c .answer-of .ensures, c .before .begun-at .ensures) (every-unserved k n (tickTurn n) (w .0) (w .1) idle r) ∙ accepted p d
 
@@ -301,6 +297,7 @@ ticked-spec =
     add-i
     loop-less
     loop-again
+    who-requires
     begun-at-requires
     answer-of-requires
     returns-2)

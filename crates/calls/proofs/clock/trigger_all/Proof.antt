@@ -9,7 +9,7 @@ use lib.ListN.{length}
 use Rattle.calendar.specs.Limits.{day}
 use Rattle.task.specs.Turns.{triggerTurn}
 use Rattle.task.proofs.Laws.{deaf}
-use Rattle.survey.proofs.KernelFacts.{tasks-long}
+use Rattle.survey.proofs.Owned.{tasks-long}
 use Rattle.calls.proofs.EveryTask.{Made, made-none, made-all, made-more, made-still}
 use Rattle.calls.proofs.clock.trigger_all.Statement.{statement}
 use Rattle.calls.proofs.clock.trigger_all.Tie as tie

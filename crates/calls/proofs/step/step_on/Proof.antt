@@ -8,7 +8,7 @@ use Rattle.layout.specs.declared.Mark.the-variants.{TI}
 use Rattle.machine.specs.Scripts.{oneTick}
 use Rattle.machine.specs.Step.{step}
 use Rattle.machine.proofs.Quiet.{tick-step}
-use Rattle.survey.proofs.KernelFacts.{tasks-long}
+use Rattle.survey.proofs.Owned.{tasks-long}
 use Rattle.calls.proofs.StirLaws.{tick-bytes}
 use Rattle.calls.proofs.CallLaws.{admitted-formal, step-refused, step-admitted}
 use Rattle.calls.proofs.step.step_on.Statement.{statement}

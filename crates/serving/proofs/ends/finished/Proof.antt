@@ -10,8 +10,8 @@ use Rattle.machine.specs.Serving.{nextServed}
 use Rattle.machine.specs.Step.{finish}
 use Rattle.machine.specs.declared.Running.the-variants.{Idle}
 use Rattle.serving.specs.Ends.{served, servedOf}
-use Rattle.survey.proofs.KernelFacts.{Good, tasks-long}
-use Rattle.survey.proofs.LeadLaws.{led, canRun, led-none, led-more, led-runs}
+use Rattle.survey.proofs.Owned.{Owned, tasks-long}
+use Rattle.survey.proofs.LeadLaws.{Led, canRun, led-none, led-more, led-runs}
 use Rattle.serving.proofs.WaitLaws.{tasks-fit}
 use Rattle.serving.proofs.ServeLaws.{NoneWaits, none-more, next-none, not-someone, served-idle}
 use Rattle.serving.proofs.ends.finished.Statement.{statement}
@@ -19,12 +19,12 @@ use Rattle.serving.proofs.ends.finished.Tie as tie
 
 abbrev Inv-loop : tie.InvT-loop
 Inv-loop m k n lead₀ waits₀ i₀ lead waits i =
-    (i ≤ n) × (lead ≡ led i (canRun (k .tasks)) (k .tasks)) × (waits ≡ false → NoneWaits i (k .tasks))
+    (i ≤ n) × Led i (canRun (k .tasks)) (k .tasks) lead × (waits ≡ false → NoneWaits i (k .tasks))
 
 abbrev μ-loop : tie.MeasureT-loop
 μ-loop m k n lead₀ waits₀ i₀ lead waits i = n - i
 
-good : (s : tie.Start Inv-loop μ-loop) → Good (s .args .t1)
+good : (s : tie.Start Inv-loop μ-loop) → Owned (s .args .t1)
 good s = (s .good .0 .0, s .good .0 .1 .1)
 
 places-requires : tie.Need-places-requires Inv-loop μ-loop
@@ -34,7 +34,7 @@ no-lead-requires : tie.Need-no-lead-requires Inv-loop μ-loop
 no-lead-requires c κs = search needs
 
 loop-holds : tie.Need-loop-holds Inv-loop μ-loop
-loop-holds c = (search needs, c .no-lead .ensures ∙ sym (led-none _ _), λ e j l. absurd (omega arith))
+loop-holds c = (search needs, led-none _ _ (c .no-lead .ensures), λ e j l. absurd (omega arith))
 
 mul-t : tie.Need-mul-t Inv-loop μ-loop
 mul-t c = search needs
@@ -104,6 +104,9 @@ idle c =
     (λ w. next-none k (λ j h. l .loop .inv .2 (w .left) j (omega (arith, tasks-fit k (s .pre), l .before .before .places .ensures, c .before .loop-test .left, h))))
     (c .if1 .came)
 
+who-requires : tie.Need-who-requires Inv-loop μ-loop
+who-requires c κs = search needs
+
 begun-at-requires : tie.Need-begun-at-requires Inv-loop μ-loop
 begun-at-requires c κs = search needs
 
@@ -113,11 +116,12 @@ answer-of-requires c κs = search needs
 returns-2 : tie.Need-returns-2 Inv-loop μ-loop
 unfolding finish servedOf
 returns-2 c =
-    let j = c .before .before .before in
+    let w = c .before .before .before in
+    let j = w .before in
     let l = j .before .before in
     let s = l .before .before .before .before in
     let k = s .args .t1 in
-    let r = led-runs (k .tasks) (tasks-long k (good s)) (k .counts .tasks) (l .loop .i) (l .before .before .places .ensures) (l .loop .inv .0) (j .before .loop-test .left) (l .loop .inv .1) in
+    let r = w .who .ensures ∙ led-runs (k .tasks) (tasks-long k (good s)) (k .counts .tasks) (l .loop .i) (l .before .before .places .ensures) (l .loop .inv .0) (j .before .loop-test .left) (l .loop .inv .1) in
     rw (c .answer-of .ensures, c .before .begun-at .ensures, r, served-idle k (s .args .m .granted) (idle j))
 
 pub finished-spec : {M : Type 1} → statement M
@@ -146,6 +150,7 @@ finished-spec =
     is-someone-requires
     finished-serving-requires
     returns
+    who-requires
     begun-at-requires
     answer-of-requires
     returns-2)

@@ -1,20 +1,20 @@
 -- The lead so far is that of the most urgent task so far that could be granted.
 use borrow.Author.Needs.{needs}
 use borrow.Author.Tests.{not-true, not-false}
-use mathlib.Core.Path.{_≡_, refl, sym, _∙_, ap}
+use mathlib.Core.Path.{_≡_, refl, sym, _∙_}
 use mathlib.Core.Bool.{Bool, true, false}
 use Prim.Native.Nat.{ℕ, _+_, _≤_, _<_, _-_}
 use native.Mathlib.Nat.{le-antisymm}
 use native.Mathlib.Omega.{arith}
-use Rattle.lock.specs.Locks.{waiting, free}
+use Rattle.lock.specs.Locks.{waiting}
 use Rattle.lock.proofs.Rests.{Named, Passed, number-below, fails-here, passes-here, all-pass}
 use Rattle.task.specs.declared.Task.{Task}
 use Rattle.machine.specs.State.{mostTasks, taskAt}
-use Rattle.machine.specs.Granting.{servable}
+use Rattle.machine.specs.Granting.{available, servable}
 use Rattle.machine.specs.declared.State.{State}
-use Rattle.survey.proofs.KernelFacts.{Good, list-long}
-use Rattle.survey.proofs.LeadLaws.{led, led-none, led-more, led-passed, led-who, against-later}
-use Rattle.serving.proofs.WaitLaws.{Listed, tasks-fit, listed, servable-idle, servable-as}
+use Rattle.survey.proofs.Owned.{Owned, list-long}
+use Rattle.survey.proofs.LeadLaws.{Led, led-none, led-more, led-passed, against-later}
+use Rattle.serving.proofs.WaitLaws.{Listed, tasks-fit, listed, servable-idle, servable-each}
 use Rattle.serving.proofs.ends.next_served.Statement.{statement}
 use Rattle.serving.proofs.ends.next_served.Tie as tie
 
@@ -22,13 +22,13 @@ abbrev canServe : State → ℕ → Bool
 canServe k = servable (k .counts .tasks) (k .tasks) (k .locks)
 
 abbrev Inv-loop : tie.InvT-loop
-Inv-loop k n locks lead i₀ wait u m list j₀ i j = (i ≡ i₀) × Passed (free wait locks) list m j
+Inv-loop k n locks lead i₀ wait priority u m list by j₀ i j = (i ≡ i₀) × Passed (available n (k .tasks) locks (by .priority) wait) list m j
 
 abbrev μ-loop : tie.MeasureT-loop
-μ-loop k n locks lead i₀ wait u m list j₀ i j = m - j
+μ-loop k n locks lead i₀ wait priority u m list by j₀ i j = m - j
 
 abbrev Inv-tasks : tie.InvT-tasks
-Inv-tasks k n locks lead₀ i₀ lead i = (i ≤ n) × (lead ≡ led i (canServe k) (k .tasks))
+Inv-tasks k n locks lead₀ i₀ lead i = (i ≤ n) × Led i (canServe k) (k .tasks) lead
 
 abbrev μ-tasks : tie.MeasureT-tasks
 μ-tasks k n locks lead₀ i₀ lead i = n - i
@@ -47,7 +47,7 @@ iOf c = c .before .tasks .i
 abbrev tOf : T → Task
 tOf c = taskAt (kOf c .tasks) (iOf c)
 
-good : (s : tie.Start Inv-loop μ-loop Inv-tasks μ-tasks) → Good (s .args .t1)
+good : (s : tie.Start Inv-loop μ-loop Inv-tasks μ-tasks) → Owned (s .args .t1)
 good s = (s .good .0 .0, s .good .0 .1 .1)
 
 placed : (c : T) → iOf c < mostTasks
@@ -64,8 +64,8 @@ named c w =
     }
 
 -- A task that could not be granted is passed over.
-passed : (c : T) → canServe (kOf c) (iOf c) ≡ false → c .before .tasks .lead ≡ led (iOf c + 1) (canServe (kOf c)) (kOf c .tasks)
-passed c e = c .before .tasks .inv .1 ∙ sym (led-passed (canServe (kOf c)) (kOf c .tasks) (iOf c) e)
+passed : (c : T) → canServe (kOf c) (iOf c) ≡ false → Led (iOf c + 1) (canServe (kOf c)) (kOf c .tasks) (c .before .tasks .lead)
+passed c e = led-passed (canServe (kOf c)) (kOf c .tasks) (iOf c) e (c .before .tasks .inv .1)
 
 -- ---- one that waits, and is more urgent than those found
 
@@ -90,7 +90,7 @@ no-lead-requires : tie.Need-no-lead-requires Inv-loop μ-loop Inv-tasks μ-tasks
 no-lead-requires c κs = search needs
 
 tasks-holds : tie.Need-tasks-holds Inv-loop μ-loop Inv-tasks μ-tasks
-tasks-holds c = (search needs, c .no-lead .ensures ∙ sym (led-none _ _))
+tasks-holds c = (search needs, led-none _ _ (c .no-lead .ensures))
 
 mul-t : tie.Need-mul-t Inv-loop μ-loop Inv-tasks μ-tasks
 mul-t c = omega (arith, placed c)
@@ -113,11 +113,11 @@ tasks-again c =
     let e = sym (c .before .is-waiting .ensures) ∙ not-true (c .before .is-waiting .result) (c .if1 .taken) in
     (search needs, passed d (servable-idle _ (kOf d .tasks) (kOf d .locks) (iOf d) e))
 
-mul-urgency-of : tie.Need-mul-urgency-of Inv-loop μ-loop Inv-tasks μ-tasks
-mul-urgency-of c = omega (arith, placed (c .before .before .before))
+mul-priority : tie.Need-mul-priority Inv-loop μ-loop Inv-tasks μ-tasks
+mul-priority c = omega (arith, placed (c .before .before .before))
 
-element-copy-out-urgency-of : tie.Need-element-copy-out-urgency-of Inv-loop μ-loop Inv-tasks μ-tasks
-element-copy-out-urgency-of c = placed (c .before .before .before)
+element-copy-out-priority : tie.Need-element-copy-out-priority Inv-loop μ-loop Inv-tasks μ-tasks
+element-copy-out-priority c = placed (c .before .before .before)
 
 urgency-of-requires : tie.Need-urgency-of-requires Inv-loop μ-loop Inv-tasks μ-tasks
 urgency-of-requires c κs = placed (c .before .before .before)
@@ -165,8 +165,8 @@ array-read-x c = omega (arith, short (atP (c .before)), c .loop-test .taken)
 cast-x : tie.Need-cast-x Inv-loop μ-loop Inv-tasks μ-tasks
 cast-x c = omega (arith, number-below (c .before .loop .inv .1 .named) (c .loop-test .taken))
 
-can-move-requires : tie.Need-can-move-requires Inv-loop μ-loop Inv-tasks μ-tasks
-can-move-requires c κs = number-below (c .before .loop .inv .1 .named) (c .loop-test .taken)
+is-available-requires : tie.Need-is-available-requires Inv-loop μ-loop Inv-tasks μ-tasks
+is-available-requires c κs = number-below (c .before .loop .inv .1 .named) (c .loop-test .taken)
 
 add-i-3 : tie.Need-add-i-3 Inv-loop μ-loop Inv-tasks μ-tasks
 add-i-3 c =
@@ -182,7 +182,7 @@ tasks-again-3 : tie.Need-tasks-again-3 Inv-loop μ-loop Inv-tasks μ-tasks
 tasks-again-3 c =
     let l = c .before .before .before in
     let d = inP (atP l) in
-    let e = servable-as _ (kOf d .tasks) (kOf d .locks) (iOf d) (waits (atP l)) ∙ sym (fails-here (l .loop .inv .1) (c .before .before .loop-test .taken) (c .before .can-move .ensures) (c .if3 .taken)) in
+    let e = servable-each _ (kOf d .tasks) (kOf d .locks) (iOf d) (waits (atP l)) ∙ sym (fails-here (l .loop .inv .1) (c .before .before .loop-test .taken) (c .before .is-available .ensures (kOf d .counts .tasks) (kOf d .tasks)) (c .if3 .taken)) in
     (omega (arith, d .tasks-test .taken, l .loop .inv .0), rw (l .loop .inv .0) (passed d e))
 
 add-j : tie.Need-add-j Inv-loop μ-loop Inv-tasks μ-tasks
@@ -193,8 +193,9 @@ loop-less c = search needs
 
 loop-again : tie.Need-loop-again Inv-loop μ-loop Inv-tasks μ-tasks
 loop-again c =
-    let l = c .before .before .before .loop in
-    (l .inv .0, passes-here (l .inv .1) (c .before .before .loop-test .taken) (c .before .can-move .ensures) (c .if3 .left))
+    let l = c .before .before .before in
+    let k = kOf (inP (atP l)) in
+    (l .loop .inv .0, passes-here (l .loop .inv .1) (c .before .before .loop-test .taken) (c .before .is-available .ensures (k .counts .tasks) (k .tasks)) (c .if3 .left))
 
 against-requires : tie.Need-against-requires Inv-loop μ-loop Inv-tasks μ-tasks
 against-requires c κs = omega (arith, placed (inP (atP (c .before))), c .before .loop .inv .0)
@@ -210,14 +211,16 @@ tasks-again-4 c =
     let p = atP (c .before .before) in
     let d = inP p in
     let l = c .before .before .loop in
-    let e = servable-as _ (kOf d .tasks) (kOf d .locks) (iOf d) (waits p) ∙ sym (all-pass (l .inv .1) (c .before .loop-test .left)) in
+    let e = servable-each _ (kOf d .tasks) (kOf d .locks) (iOf d) (waits p) ∙ sym (all-pass (l .inv .1) (c .before .loop-test .left)) in
     (omega (arith, d .tasks-test .taken, l .inv .0), rw (l .inv .0) (led-more (canServe (kOf d)) (kOf d .tasks) (iOf d) (sym e) (p .before .before .urgency-of .ensures) (d .before .tasks .inv .1) (rw (l .inv .0) at (c .against .ensures))))
+
+who-requires : tie.Need-who-requires Inv-loop μ-loop Inv-tasks μ-tasks
+who-requires c κs = search needs
 
 returns : tie.Need-returns Inv-loop μ-loop Inv-tasks μ-tasks
 returns c =
-    let l = c .before .tasks in
-    let k = c .before .before .before .before .before .before .args .t1 in
-    rw (l .inv .1, le-antisymm (l .inv .0) (c .tasks-test .left)) (led-who (k .counts .tasks) (canServe k) (k .tasks))
+    let l = c .before .before .tasks in
+    c .who .ensures ∙ l .inv .1 .who ∙ rw (le-antisymm (l .inv .0) (c .before .tasks-test .left))
 
 pub next-served-spec : {M : Type 1} → statement M
 next-served-spec =
@@ -236,8 +239,8 @@ next-served-spec =
     add-i
     tasks-less
     tasks-again
-    mul-urgency-of
-    element-copy-out-urgency-of
+    mul-priority
+    element-copy-out-priority
     urgency-of-requires
     add-i-2
     tasks-less-2
@@ -250,7 +253,7 @@ next-served-spec =
     loop-holds
     array-read-x
     cast-x
-    can-move-requires
+    is-available-requires
     add-i-3
     tasks-less-3
     tasks-again-3
@@ -261,4 +264,5 @@ next-served-spec =
     add-i-4
     tasks-less-4
     tasks-again-4
+    who-requires
     returns)

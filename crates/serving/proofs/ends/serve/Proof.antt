@@ -1,54 +1,56 @@
--- What serving makes of the kernel so far stays the same; each turn ends a wait.
+-- What serving makes of the kernel so far, in the turns that are left, stays the same.
 use borrow.Author.Needs.{needs}
-use mathlib.Core.Path.{_≡_, refl, sym, _∙_, ap}
+use mathlib.Core.Path.{_≡_, sym, _∙_}
 use mathlib.Core.Bool.{true}
-use Prim.Native.Nat.{ℕ, _<_}
+use Prim.Native.Nat.{ℕ, _-_, _≤_, _<_}
 use native.Mathlib.Omega.{arith}
 use Rattle.machine.specs.Granting.{servable}
-use Rattle.machine.specs.Serving.{Served, nextServed}
+use Rattle.machine.specs.Serving.{nextServed}
+use Rattle.machine.specs.declared.Running.{Running}
 use Rattle.machine.specs.declared.State.{State}
-use Rattle.machine.specs.declared.Running.the-variants.{Runs}
-use Rattle.machine.proofs.Serving.{waiters}
-use Rattle.survey.specs.Looks.{waitsOk}
-use Rattle.serving.specs.Ends.{served, withServed, servedOf}
-use Rattle.serving.proofs.WaitLaws.{tasks-fit, waits-kept}
-use Rattle.serving.proofs.ServeLaws.{next-right, next-fewer, served-idle, served-grant}
+use Rattle.serving.specs.Ends.{served}
+use Rattle.serving.proofs.WaitLaws.{tasks-fit}
+use Rattle.serving.proofs.ServeLaws.{Serves, serves-start, serves-idle, serves-end, serves-turn, next-right}
 use Rattle.serving.proofs.ends.serve.Statement.{statement}
 use Rattle.serving.proofs.ends.serve.Tie as tie
 
 abbrev Inv-loop : tie.InvT-loop
-Inv-loop granted now₀ g₀ now g =
-    (waitsOk now ≡ true)
-    × (withServed (servedOf now g) now ≡ withServed (servedOf now₀ g₀) now₀)
-    × (servedOf now g .granted ≡ servedOf now₀ g₀ .granted)
+Inv-loop granted turns now₀ g₀ turn₀ now g turn = (turn ≤ turns) × Serves now₀ g₀ (turns - turn) now g
 
 abbrev μ-loop : tie.MeasureT-loop
-μ-loop granted now₀ g₀ now g = waiters (now .counts .tasks) (now .tasks)
+μ-loop granted turns now₀ g₀ turn₀ now g turn = turns - turn
+
+-- A turn.
+abbrev T : Type 0
+T = tie.After-next-served Inv-loop μ-loop
+
+abbrev kOf : T → State
+kOf c = c .before .before .loop .now
+
+next : (c : T) {r : Running} → c .next-served .result ≡ r → nextServed (kOf c .counts .tasks) (served (kOf c) 0) ≡ r
+next c e = sym (c .next-served .ensures) ∙ e
 
 -- Where there is a next task.
 abbrev P : Type 0
 P = tie.After-known-told Inv-loop μ-loop
 
-abbrev kOf : P → State
-kOf c = c .before .before .before .before .loop .now
+abbrev inP : P → T
+inP c = c .before .before .before
 
 abbrev iOf : P → ℕ
 iOf c = c .before .next .given .0 .0
 
-next : (c : P) → nextServed (kOf c .counts .tasks) (served (kOf c) 0) ≡ Runs (iOf c)
-next c = sym (c .before .before .before .next-served .ensures) ∙ c .before .next .given .1
+right : (c : P) → let k = kOf (inP c) in (iOf c < k .counts .tasks) × (servable (k .counts .tasks) (k .tasks) (k .locks) (iOf c) ≡ true)
+right c = next-right (kOf (inP c) .counts .tasks) (served (kOf (inP c)) 0) (iOf c) (next (inP c) (c .before .next .given .1))
 
-right : (c : P) → (iOf c < kOf c .counts .tasks) × (servable (kOf c .counts .tasks) (kOf c .tasks) (kOf c .locks) (iOf c) ≡ true)
-right c = next-right (kOf c .counts .tasks) (served (kOf c) 0) (iOf c) (next c)
-
-waits : (c : P) → waitsOk (kOf c) ≡ true
-waits c = c .before .before .before .before .loop .inv .0
+cast-turns : tie.Need-cast-turns Inv-loop μ-loop
+cast-turns c = search needs
 
 loop-holds : tie.Need-loop-holds Inv-loop μ-loop
-loop-holds c = (c .pre, refl, refl)
+loop-holds c = (omega arith, serves-start _ _ (c .before .before .pre) (omega arith))
 
 next-served-requires : tie.Need-next-served-requires Inv-loop μ-loop
-next-served-requires c κs = c .loop .inv .0
+next-served-requires c κs = c .before .loop .inv .1 .waits
 
 enum-known-next : tie.Need-enum-known-next Inv-loop μ-loop
 enum-known-next c = search needs
@@ -58,31 +60,41 @@ enum-told c = search needs
 
 returns : tie.Need-returns Inv-loop μ-loop
 returns c =
-    let l = c .before .before .before .loop in
-    let e = sym (served-idle (l .now) (l .g) (sym (c .before .before .next-served .ensures) ∙ c .enum-told .given .1)) in
-    (ap (λ (p : Served). withServed p (l .now)) e ∙ l .inv .1, ap (λ (p : Served). p .granted) e ∙ l .inv .2)
+    let t = c .before .before in
+    let h = t .before .before .loop .inv .1 in
+    serves-idle h (next t (c .enum-told .given .1))
 
 cast-at : tie.Need-cast-at Inv-loop μ-loop
 cast-at c = search needs
 
 grant-to-requires : tie.Need-grant-to-requires Inv-loop μ-loop
-grant-to-requires c κs = (waits c, (right c .0, right c .1))
+grant-to-requires c κs = (inP c .before .before .loop .inv .1 .waits, (right c .0, right c .1))
 
 put-task-requires : tie.Need-put-task-requires Inv-loop μ-loop
-put-task-requires c κs = omega (arith, right (c .before) .0, tasks-fit (kOf (c .before)) (waits (c .before)))
+put-task-requires c κs =
+    let t = inP (c .before) in
+    omega (arith, right (c .before) .0, tasks-fit (kOf t) (t .before .before .loop .inv .1 .waits))
+
+add-turn : tie.Need-add-turn Inv-loop μ-loop
+add-turn c = search needs
 
 loop-less : tie.Need-loop-less Inv-loop μ-loop
-loop-less c =
-    let d = c .before .before in
-    rw (c .before .grant-to .ensures) (omega (arith, next-fewer (kOf d .counts .tasks) (served (kOf d) 0) (iOf d) (next d)))
+loop-less c = search needs
 
 loop-again : tie.Need-loop-again Inv-loop μ-loop
 loop-again c =
     let d = c .before .before in
-    let l = d .before .before .before .before .loop in
-    let e = served-grant (kOf d) (l .g) (iOf d) (next d) in
-    rw (c .before .grant-to .ensures, c .put-task .ensures)
-    (waits-kept (kOf d) (waits d) (iOf d) (right d .1), ap (λ (p : Served). withServed p (kOf d)) e ∙ l .inv .1, ap (λ (p : Served). p .granted) e ∙ l .inv .2)
+    let t = inP d in
+    let l = t .before .before .loop in
+    let m = t .before .loop-test .taken in
+    let h = l .inv .1 in (
+      omega (arith, m),
+      rw (c .before .grant-to .ensures, c .put-task .ensures)
+          (serves-turn h (iOf d) _ (omega (arith, m)) (next t (d .before .next .given .1))),
+    )
+
+returns-2 : tie.Need-returns-2 Inv-loop μ-loop
+returns-2 c = serves-end (c .before .loop .inv .1) (omega (arith, c .loop-test .left))
 
 pub serve-spec : {M : Type 1} → statement M
 serve-spec =
@@ -90,6 +102,7 @@ serve-spec =
     (tie.spec
     Inv-loop
     μ-loop
+    cast-turns
     loop-holds
     next-served-requires
     enum-known-next
@@ -98,5 +111,7 @@ serve-spec =
     cast-at
     grant-to-requires
     put-task-requires
+    add-turn
     loop-less
-    loop-again)
+    loop-again
+    returns-2)

@@ -8,25 +8,25 @@ is-waiting-requires : tie.Need-is-waiting-requires
 is-waiting-requires c κs = search needs
 
 returns : tie.Need-returns
-returns c = let a = c .before .before .args in
-    settled-none (a .n) (a .locks) (a .t) (c .before .is-waiting .ensures) (c .if1 .taken)
+returns c ts = let a = c .before .before .args in
+    settled-none (a .n) ts (a .locks) (a .t) (c .before .is-waiting .ensures) (c .if1 .taken)
 
 cast-len : tie.Need-cast-len
 cast-len c = search needs
 
 returns-2 : tie.Need-returns-2
-returns-2 c = let w = c .before .before .before .before in
+returns-2 c ts = let w = c .before .before .before .before in
     let a = w .before .args in
-    settled-long (a .n) (a .locks) (a .t) (w .is-waiting .ensures) (c .before .before .before .if1 .left) (c .if2 .taken)
+    settled-long (a .n) ts (a .locks) (a .t) (w .is-waiting .ensures) (c .before .before .before .if1 .left) (c .if2 .taken)
 
 is-distinct-requires : tie.Need-is-distinct-requires
 is-distinct-requires c κs = not-many (c .before .before .before .before .before .args .t .len) (c .if2 .left)
 
 returns-3 : tie.Need-returns-3
-returns-3 c = let e = c .before .before in
+returns-3 c ts = let e = c .before .before in
     let w = e .before .before .before .before in
     let a = w .before .args in
-    settled-twice (a .n) (a .locks) (a .t) (w .is-waiting .ensures) (e .before .before .before .if1 .left) (e .if2 .left)
+    settled-twice (a .n) ts (a .locks) (a .t) (w .is-waiting .ensures) (e .before .before .before .if1 .left) (e .if2 .left)
     (c .before .is-distinct .ensures) (c .if3 .taken)
 
 count-of-requires : tie.Need-count-of-requires
@@ -37,15 +37,15 @@ are-below-requires c κs = let e = c .before .before .before in
     not-many (e .before .before .before .before .before .args .t .len) (e .if2 .left)
 
 returns-4 : tie.Need-returns-4
-returns-4 c = let d = c .before .before .before .before in
+returns-4 c ts = let d = c .before .before .before .before in
     let e = d .before in
     let w = e .before .before .before .before in
     let a = w .before .args in
-    settled-unknown (a .n) (a .locks) (a .t) (w .is-waiting .ensures) (e .before .before .before .if1 .left) (e .if2 .left)
+    settled-unknown (a .n) ts (a .locks) (a .t) (w .is-waiting .ensures) (e .before .before .before .if1 .left) (e .if2 .left)
     (d .is-distinct .ensures) (c .before .before .before .if3 .left) (c .before .before .count-of .ensures) (c .before .are-below .ensures) (c .if4 .taken)
 
-can-move-all-requires : tie.Need-can-move-all-requires
-can-move-all-requires c κs = let e = c .before .before .before .before .before in
+could-be-granted-requires : tie.Need-could-be-granted-requires
+could-be-granted-requires c κs = let e = c .before .before .before .before .before in
     let s = e .before .before .before .before .before in
     let a = s .args in (
       not-many (a .t .len) (e .if2 .left),
@@ -53,14 +53,14 @@ can-move-all-requires c κs = let e = c .before .before .before .before .before 
     )
 
 returns-5 : tie.Need-returns-5
-returns-5 c = let b = c .before .before in
+returns-5 c ts = let b = c .before .before in
     let d = b .before .before .before in
     let e = d .before in
     let w = e .before .before .before .before in
     let a = w .before .args in
-    settled-each (a .n) (a .locks) (a .t) (w .is-waiting .ensures) (e .before .before .before .if1 .left) (e .if2 .left)
+    settled-each (a .n) ts (a .locks) (a .t) (w .is-waiting .ensures) (e .before .before .before .if1 .left) (e .if2 .left)
     (d .is-distinct .ensures) (b .before .before .if3 .left) (b .before .count-of .ensures) (b .are-below .ensures) (c .before .if4 .left)
-    (c .can-move-all .ensures)
+    (c .could-be-granted .ensures (a .n .tasks) ts)
 
 pub is-wait-settled-spec : {M : Type 1} → statement M
 is-wait-settled-spec =
@@ -75,5 +75,5 @@ is-wait-settled-spec =
     count-of-requires
     are-below-requires
     returns-4
-    can-move-all-requires
+    could-be-granted-requires
     returns-5)

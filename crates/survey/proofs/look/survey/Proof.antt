@@ -122,8 +122,8 @@ fits c =
     let p = scheduled u in
     let i = turn u in
     let k = state (passed i) in
-    ⊎-elim (λ w. fit-busy day (k .counts) (k .locks) (one i) (priorities p) (schedule p) (start u) (sym (w .2 .ensures) ∙ not-false _ (w .3 .left)))
-    (λ w. fit-eased day (k .counts) (k .locks) (one i) (priorities p) (schedule p) (start u) (sym (c .before .is-at-ease .ensures) ∙ not-false _ (w .0 .left)))
+    ⊎-elim (λ w. fit-busy day (k .counts) (k .tasks) (k .locks) (one i) (priorities p) (schedule p) (start u) (sym (w .2 .ensures (k .tasks)) ∙ not-false _ (w .3 .left)))
+    (λ w. fit-eased day (k .counts) (k .tasks) (k .locks) (one i) (priorities p) (schedule p) (start u) (sym (c .before .is-at-ease .ensures) ∙ not-false _ (w .0 .left)))
     (c .if7 .came)
 
 stirring :
@@ -196,7 +196,7 @@ returns-2 c =
     let p = c .before .before in
     let k = state (passed (here p)) in
     c .unfit2 .ensures
-    ∙ ends (here p) (odd-priority day (k .counts) (k .locks) (one (here p)) (sym (p .are-priorities .ensures) ∙ not-true _ (c .before .if2 .taken)))
+    ∙ ends (here p) (odd-priority day (k .counts) (k .tasks) (k .locks) (one (here p)) (sym (p .are-priorities .ensures) ∙ not-true _ (c .before .if2 .taken)))
 
 mul-t : tie.Need-mul-t Inv-loop μ-loop
 mul-t c = omega (arith, room (here (c .before)))
@@ -225,7 +225,7 @@ returns-3 c =
     let i = here (a .before .before .before .before .before .before .before .before .before) in
     let k = state (passed i) in
     c .unfit3 .ensures
-    ∙ ends i (odd-schedule day (k .counts) (k .locks) (one i) (sym (a .is-schedule-ok .ensures) ∙ not-true _ (c .before .if4 .taken)))
+    ∙ ends i (odd-schedule day (k .counts) (k .tasks) (k .locks) (one i) (sym (a .is-schedule-ok .ensures) ∙ not-true _ (c .before .if4 .taken)))
 
 falls-on-requires : tie.Need-falls-on-requires Inv-loop μ-loop
 falls-on-requires c κs = search needs
@@ -264,7 +264,7 @@ returns-4 c =
     let i = here (prior (e .before .before)) in
     let k = state (passed i) in
     c .unfit4 .ensures
-    ∙ ends i (odd-kept day (k .counts) (k .locks) (one i)
+    ∙ ends i (odd-kept day (k .counts) (k .tasks) (k .locks) (one i)
     (sym (e .is-back .ensures) ∙ b .before .before .if5 .taken)
     (sym (b .is-kept-right .ensures) ∙ not-true _ (c .before .if6 .taken)))
 
@@ -302,9 +302,9 @@ returns-5 c =
     let i = turn (e .before .before) in
     let k = state (passed i) in
     c .unfit5 .ensures
-    ∙ ends i (odd-busy day (k .counts) (k .locks) (one i)
+    ∙ ends i (odd-busy day (k .counts) (k .tasks) (k .locks) (one i)
     (sym (e .is-at-ease .ensures) ∙ not-true _ (b .before .before .if7 .taken))
-    (sym (b .is-busy-ok .ensures) ∙ not-true _ (c .before .if8 .taken)))
+    (sym (b .is-busy-ok .ensures (k .tasks)) ∙ not-true _ (c .before .if8 .taken)))
 
 ends-at-requires : tie.Need-ends-at-requires Inv-loop μ-loop
 ends-at-requires c κs = search needs
@@ -334,14 +334,17 @@ loop-again c =
     looked-next day k (moment i) (i .before .loop .inv) (i .loop-test .taken)
     (fits t) (stirring t) (running t) (c .before .urgency-of .ensures) (c .against .ensures)
 
+who-requires : tie.Need-who-requires Inv-loop μ-loop
+who-requires c κs = search needs
+
 returns-6 : tie.Need-returns-6 Inv-loop μ-loop
 returns-6 c =
-    let l = c .before in
+    let l = c .before .before in
     let p = l .before .before .before .before .before in
     let k = state p in
-    fit-is day k (upto-all (l .loop .inv .tasks) (c .loop-test .left) ∙ all p)
-    (looked-stirs day k _ (l .loop .inv) (c .loop-test .left) (l .before .before .before .plus .ensures))
-    (looked-runs day k _ (l .loop .inv) (c .loop-test .left))
+    fit-is day k (upto-all (l .loop .inv .tasks) (c .before .loop-test .left) ∙ all p)
+    (looked-stirs day k _ (l .loop .inv) (c .before .loop-test .left) (l .before .before .before .plus .ensures))
+    (c .who .ensures ∙ looked-runs day k _ (l .loop .inv) (c .before .loop-test .left))
 
 pub survey-spec : {M : Type 1} → statement M
 survey-spec =
@@ -400,4 +403,5 @@ survey-spec =
     add-i
     loop-less
     loop-again
+    who-requires
     returns-6)

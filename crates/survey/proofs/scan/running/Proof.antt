@@ -1,20 +1,20 @@
 -- The lead so far is that of the most urgent task so far.
 use borrow.Author.Needs.{needs}
-use mathlib.Core.Path.{_≡_, sym, _∙_}
+use mathlib.Core.Path.{_∙_}
 use Prim.Native.Nat.{_≤_, _-_}
 use native.Mathlib.Omega.{arith}
-use Rattle.survey.proofs.KernelFacts.{Good, tasks-long}
-use Rattle.survey.proofs.LeadLaws.{led, canRun, led-none, led-more, led-runs}
+use Rattle.survey.proofs.Owned.{Owned, tasks-long}
+use Rattle.survey.proofs.LeadLaws.{Led, canRun, led-none, led-more, led-runs}
 use Rattle.survey.proofs.scan.running.Statement.{statement}
 use Rattle.survey.proofs.scan.running.Tie as tie
 
 abbrev Inv-loop : tie.InvT-loop
-Inv-loop k n lead₀ i₀ lead i = (i ≤ n) × (lead ≡ led i (canRun (k .tasks)) (k .tasks))
+Inv-loop k n lead₀ i₀ lead i = (i ≤ n) × Led i (canRun (k .tasks)) (k .tasks) lead
 
 abbrev μ-loop : tie.MeasureT-loop
 μ-loop k n lead₀ i₀ lead i = n - i
 
-good : (s : tie.Start Inv-loop μ-loop) → Good (s .args .t1)
+good : (s : tie.Start Inv-loop μ-loop) → Owned (s .args .t1)
 good s = (s .good .0 .0, s .good .0 .1 .1)
 
 places-requires : tie.Need-places-requires Inv-loop μ-loop
@@ -24,7 +24,7 @@ no-lead-requires : tie.Need-no-lead-requires Inv-loop μ-loop
 no-lead-requires c κs = search needs
 
 loop-holds : tie.Need-loop-holds Inv-loop μ-loop
-loop-holds c = (search needs, c .no-lead .ensures ∙ sym (led-none _ _))
+loop-holds c = (search needs, led-none _ _ (c .no-lead .ensures))
 
 mul-t : tie.Need-mul-t Inv-loop μ-loop
 mul-t c = search needs
@@ -66,12 +66,16 @@ loop-again c =
     let k = s .args .t1 in
     (search needs, led-more (canRun (k .tasks)) (k .tasks) (l .loop .i) (c .before .before .can-run .ensures) (c .before .urgency-of .ensures) (l .loop .inv .1) (c .against .ensures))
 
+who-requires : tie.Need-who-requires Inv-loop μ-loop
+who-requires c κs = search needs
+
 returns : tie.Need-returns Inv-loop μ-loop
 returns c =
-    let l = c .before in
+    let l = c .before .before in
     let s = l .before .before .before .before in
     let k = s .args .t1 in
-    led-runs (k .tasks) (tasks-long k (good s)) (k .counts .tasks) (l .loop .i) (l .before .before .places .ensures) (l .loop .inv .0) (c .loop-test .left) (l .loop .inv .1)
+    c .who .ensures
+    ∙ led-runs (k .tasks) (tasks-long k (good s)) (k .counts .tasks) (l .loop .i) (l .before .before .places .ensures) (l .loop .inv .0) (c .before .loop-test .left) (l .loop .inv .1)
 
 pub running-spec : {M : Type 1} → statement M
 running-spec =
@@ -94,4 +98,5 @@ running-spec =
     add-i
     loop-less
     loop-again
+    who-requires
     returns)

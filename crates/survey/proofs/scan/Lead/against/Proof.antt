@@ -4,8 +4,8 @@ use Rattle.survey.specs.Leads.{against}
 use Rattle.survey.proofs.scan.Lead.against.Statement.{statement}
 use Rattle.survey.proofs.scan.Lead.against.Tie as tie
 
-cast-t8 : tie.Need-cast-t8
-cast-t8 c = search needs
+cast-task : tie.Need-cast-task
+cast-task c = search needs
 
 returns : tie.Need-returns
 unfolding against
@@ -16,4 +16,4 @@ unfolding against
 returns-2 c = rw (c .if1 .left)
 
 pub against-spec : {M : Type 1} → statement M
-against-spec = tie.close (tie.spec cast-t8 returns returns-2)
+against-spec = tie.close (tie.spec cast-task returns returns-2)
