@@ -14,14 +14,13 @@ use Rattle.layout.specs.declared.Mark.the-variants.{DS, TI}
 use Rattle.layout.specs.declared.Form.the-variants.{Preset}
 use Rattle.layout.proofs.MarksLaws.{is-mark}
 use Rattle.record.specs.Lists.{distinct}
-use Rattle.record.specs.Reading.{callWith, refused, accepted, opened, orRefused}
+use Rattle.record.specs.Reading.{callWith}
 use Rattle.record.specs.Refusals.{mostNumbers, mostValue, named, uses, cleanNames, cleanStart, ranged}
 use Rattle.record.specs.declared.Read.the-variants.{Refused, Accepted}
 use Rattle.record.specs.declared.Reading.{Reading}
 use Rattle.lock.specs.Locks.{mostLocks, every}
 use Rattle.lock.specs.declared.Wait.{Wait}
 use Rattle.lock.proofs.Bools.{byBool, contra, both}
-use Rattle.machine.specs.declared.Counts.{Counts}
 use Rattle.machine.specs.declared.State.{State}
 use Rattle.machine.specs.declared.Running.{Running}
 use Rattle.machine.specs.declared.Running.the-variants.{Idle, Runs}
@@ -32,16 +31,15 @@ use Rattle.machine.specs.State.{mostTasks, taskAt}
 use Rattle.machine.specs.Running.{runner}
 use Rattle.machine.specs.Test.{valid}
 use Rattle.machine.specs.Sorts.{sortOf, declaring, declares, placeOf, runnerAt}
-use Rattle.machine.specs.Refusals.{listDeclared, declaredBy, formalRefusal, admittedIf, admitted, refusalBy, stateRefusal}
+use Rattle.machine.specs.Refusals.{listDeclared, declaredBy, formalRefusal, admitted, refusalBy, stateRefusal}
 use Rattle.machine.specs.Calls.{declaration, tick, workBy}
 use Rattle.machine.specs.Step.{refuse, declared, finish, orRefuse, carryOut, settle, stepRead, step}
 use Rattle.machine.proofs.Urgency.{Below, runner-below}
 use Rattle.machine.proofs.Passed.{Formal, formal, formal-as}
-use Rattle.machine.proofs.Cases.{opened-cases}
 use Rattle.machine.proofs.Sorts.{listing, tick-mark, list-mark, list-shape, no-list}
-use Rattle.calls.specs.Inner.{InOrder}
+use Rattle.refusals.specs.Inner.{InOrder}
 use Rattle.calls.proofs.AskLaws.{list-below}
-use Rattle.calls.proofs.RefusalLaws.{refusal-by}
+use Rattle.refusals.proofs.RefusalLaws.{refusal-by}
 use Rattle.calls.proofs.TurnCases.{places-fit, sound}
 
 module _ (day : ℕ) (k : State) (h : Head) (l : List ℕ) where
@@ -154,41 +152,6 @@ module _ (day : ℕ) (k : State) (h : Head) (l : List ℕ) where
       let m = is-mark (h .mark) TI (tick-mark (h .mark) q) in
       let ticks : finish k (tick k) ≡ carryOut day k call = rw q in
       ap (λ (x : Mark). orRefuse k (stateRefusal x k call) (finish k (tick k))) (sym m) ∙ ap (orRefuse k (stateRefusal (h .mark) k call)) ticks
-
--- ---- bytes
-
-module _ (day : ℕ) (n : Counts) (begun : Bool) (s : List ℕ) {r : Reading} (o : r ≡ opened s) where
-  pub admit-unread : {m : ℕ} → r .answer ≡ Refused m → opened s ≡ admitted day n begun s
-  unfolding admittedIf
-  admit-unread e = rw (← o, e)
-
-  module _ {h : Head} (e : r .answer ≡ Accepted h) where
-    pub admit-refused : {m : ℕ} → m ≡ formalRefusal day n begun (callWith h (r .list)) → (m ≡ 0 → ⊥) → refused m ≡ admitted day n begun s
-    unfolding admittedIf
-    admit-refused {m} q z = rw (← o, e, ← q) (go m _ z)
-      where
-        go : (m : ℕ) (x : Reading) → (m ≡ 0 → ⊥) → refused m ≡ orRefused m x
-        go zero x z = absurd (z refl)
-        go (suc m) x z = refl
-
-    pub admit-passed : formalRefusal day n begun (callWith h (r .list)) ≡ 0 → r ≡ admitted day n begun s
-    unfolding admittedIf
-    admit-passed q = rw (← o, e, q)
-
--- What is admitted has passed.
-pub admitted-formal : (day : ℕ) (n : Counts) (begun : Bool) (s : List ℕ) {r : Reading} {h : Head} → r ≡ admitted day n begun s → r .answer ≡ Accepted h
-    → formalRefusal day n begun (callWith h (r .list)) ≡ 0
-unfolding admittedIf
-admitted-formal day n begun s {r} {h} o e =
-    opened-cases s (λ x. r ≡ admittedIf day n begun (x .answer) x → formalRefusal day n begun (callWith h (r .list)) ≡ 0)
-    (λ q. let z : Refused 2 ≡ Accepted h = sym (ap (λ (x : Reading). x .answer) q) ∙ e in let y : _≡_ {A = ℕ} 0 1 = cc in absurd (omega arith))
-    (λ c q. go c (formalRefusal day n begun c) refl q) o
-  where
-    go : (c : Call) (m : ℕ) → formalRefusal day n begun c ≡ m → r ≡ orRefused m (accepted c) → formalRefusal day n begun (callWith h (r .list)) ≡ 0
-    go c zero f q =
-        let x : c .head ≡ h = let z : Accepted (c .head) ≡ Accepted h = sym (ap (λ (x : Reading). x .answer) q) ∙ e in cc in
-        rw (q, ← x) f
-    go c (suc m) f q = let z : Refused (suc m) ≡ Accepted h = sym (ap (λ (x : Reading). x .answer) q) ∙ e in let y : _≡_ {A = ℕ} 0 1 = cc in absurd (omega arith)
 
 -- ---- the step
 

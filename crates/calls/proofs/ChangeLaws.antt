@@ -8,10 +8,13 @@ use lib.ListN.{set}
 use borrow.Author.Tests.{ltb-true}
 use Rattle.layout.specs.declared.Call.{Call}
 use Rattle.layout.specs.declared.Head.{Head}
+use Rattle.layout.specs.declared.Mark.{Mark}
 use Rattle.record.specs.Reading.{callWith}
 use Rattle.record.specs.Refusals.{named}
 use Rattle.lock.specs.declared.Wait.{Wait}
-use Rattle.lock.proofs.Bools.{byBool, contra, both}
+use Rattle.lock.specs.Locks.{waiting, every, taken}
+use Rattle.lock.specs.declared.Locks.{Locks}
+use Rattle.lock.proofs.Bools.{byBool, contra, both, or-then}
 use Rattle.task.specs.declared.Task.{Task}
 use Rattle.task.proofs.Waits.{NoNewWait}
 use Rattle.machine.specs.declared.Change.{Change}
@@ -31,12 +34,13 @@ use Rattle.machine.specs.Step.{finish, settle}
 use Rattle.machine.specs.Test.{waitOk, valid}
 use Rattle.machine.proofs.Urgency.{Below, runner-below}
 use Rattle.machine.proofs.Passed.{unrefused}
-use Rattle.machine.proofs.Sorts.{listing}
+use Rattle.machine.proofs.Sorts.{listing, given-waits}
 use Rattle.machine.proofs.WorkPairs.{no-wait-named, no-wait-runner}
 use Rattle.survey.specs.Looks.{waitsOk}
 use Rattle.serving.specs.declared.ends.Marks.{Marks}
 use Rattle.serving.specs.Ends.{workHere}
-use Rattle.calls.specs.Inner.{Returnable, aboutOne, ticking, marksBy}
+use Rattle.refusals.specs.Inner.{aboutOne, ticking}
+use Rattle.calls.specs.Inner.{Returnable, marksBy}
 use Rattle.calls.proofs.AskLaws.{wait-begins}
 use Rattle.calls.proofs.TurnCases.{wait-stays, wait-at, waits-changed, sound}
 use Rattle.calls.proofs.CallLaws.{past, named-once, settled-call}
@@ -59,6 +63,10 @@ tick-left (ListAsked w b) e = contra e refl
 tick-left (ListGiven w) e = contra e refl
 tick-left AnInterrupt e = contra e refl
 tick-left EveryTask e = refl
+
+-- What a list gives back can be given back.
+pub given-back : (m : Mark) (c : Call) (l : Locks) {s : Sort} {w : Wait} → s ≡ sortOf m → s ≡ ListGiven w → Returnable s l c → every (taken w l) (named c) ≡ true
+given-back m c l {w = w} q e b = or-then (waiting w) _ (rw e at b) (given-waits m (sym q ∙ e))
 
 abbrev pub withChange : State → ℕ → Change → State
 withChange k i d = withState (set (k .tasks) i (d .task)) (d .locks) (k .enabled) k

@@ -1,5 +1,4 @@
 -- Laws that the proofs of the code share.
-pub mod RefusalLaws
 pub mod TurnCases
 pub mod AskLaws
 pub mod EveryTask

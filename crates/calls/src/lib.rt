@@ -5,6 +5,4 @@ pub mod clock;
 pub mod declarations;
 pub mod fresh;
 pub mod quiet;
-pub mod refusals;
-mod sorts;
 pub mod step;

@@ -16,13 +16,13 @@ use Rattle.layout.specs.declared.Mark.the-variants.{TG}
 use Rattle.lock.proofs.Bools.{byBool, both}
 use Rattle.task.specs.declared.Task.{Task}
 use Rattle.task.specs.declared.Turn.{Turn}
-use Rattle.machine.specs.Calls.{trigger, interruptBy, tick, workBy}
+use Rattle.machine.specs.Calls.{changeOf, trigger, interruptBy, tick, workBy}
 use Rattle.machine.specs.Sorts.{sortOf, runnerAt}
 use Rattle.machine.specs.Refusals.{declaredBy, declaredIn}
 use Rattle.machine.specs.Running.{runner}
 use Rattle.machine.specs.Serving.{Served, grantTo}
 use Rattle.machine.specs.Sets.{setOf}
-use Rattle.machine.specs.State.{mostTasks, enabledAt}
+use Rattle.machine.specs.State.{mostTasks, taskAt, enabledAt}
 use Rattle.machine.specs.Step.{refuse, finish, declared, carryOut, step}
 use Rattle.machine.specs.Work.{Work, changed, onlyEnabled, turns, everyTurn}
 use Rattle.machine.specs.declared.Change.{Change}
@@ -95,14 +95,18 @@ module _ (k : State) where
         byBool (is m TG) (λ e. rw e (byBool (enabledAt k i) (λ e. rw e (sized-every _ _)) (λ e. rw e (sized-none (k .enabled)))))
         (λ e. rw e (sized-none _))
 
+    -- What a call of a sort does to task i.
+    abbrev does : ℕ → Call → Sort → ℕ → Change
+    does day c s i = changeOf (k .counts .tasks) (k .tasks) day s c (k .clock) (k .now) (taskAt (k .tasks) i) (k .locks)
+
     sized-work : (day : ℕ) (c : Call) (s : Sort) → declaredBy s (k .counts) c ≡ true → Sized (workBy day s k c)
     unfolding workBy declaredBy tick
     sized-work day c Declaration e = sized-none (k .enabled)
     sized-work day c OneTask e =
-        sized-one (c .head .number) _ (omega (arith, ltb-true (c .head .number) (k .counts .tasks) (both (ltb (c .head .number) (k .counts .tasks)) _ e .0)))
-    sized-work day c TheRunner e = sized-runner _
-    sized-work day c (ListAsked w b) e = sized-runner _
-    sized-work day c (ListGiven w) e = sized-runner _
+        sized-one (c .head .number) (does day c OneTask (c .head .number)) (omega (arith, ltb-true (c .head .number) (k .counts .tasks) (both (ltb (c .head .number) (k .counts .tasks)) _ e .0)))
+    sized-work day c TheRunner e = sized-runner (does day c TheRunner)
+    sized-work day c (ListAsked w b) e = sized-runner (does day c (ListAsked w b))
+    sized-work day c (ListGiven w) e = sized-runner (does day c (ListGiven w))
     sized-work day c AnInterrupt e = sized-interrupt day (c .head .mark) (c .head .number)
     sized-work day c EveryTask e = sized-every _ _
 

@@ -2,7 +2,7 @@
 use borrow.Author.Needs.{needs}
 use Rattle.record.specs.Reading.{callWith}
 use Rattle.machine.specs.Calls.{changeOf}
-use Rattle.calls.proofs.RefusalLaws.{given-back}
+use Rattle.calls.proofs.ChangeLaws.{given-back}
 use Rattle.calls.proofs.changes.change_of.Statement.{statement}
 use Rattle.calls.proofs.changes.change_of.Tie as tie
 

@@ -13,7 +13,7 @@ use Rattle.machine.specs.Running.{runner}
 use Rattle.machine.specs.Sorts.{sortOf, declaring, declares, placeOf}
 use Rattle.machine.specs.Refusals.{declaredBy, stateRefusal}
 use Rattle.machine.specs.Calls.{workBy}
-use Rattle.calls.specs.Inner.{aboutOne}
+use Rattle.refusals.specs.Inner.{aboutOne}
 use Rattle.calls.proofs.TurnCases.{sound}
 use Rattle.calls.proofs.CallLaws.{past, in-order, place-in, ground, settled-refused, settled-declared, settled-call, settled-tick}
 use Rattle.calls.proofs.ChangeLaws.{interrupt-left, tick-left, returnable, change-waits, change-done}

@@ -10,7 +10,8 @@ use Rattle.machine.specs.Step.{step}
 use Rattle.machine.proofs.Quiet.{tick-step}
 use Rattle.survey.proofs.Owned.{tasks-long}
 use Rattle.calls.proofs.StirLaws.{tick-bytes}
-use Rattle.calls.proofs.CallLaws.{admitted-formal, step-refused, step-admitted}
+use Rattle.refusals.proofs.Admitting.{admitted-formal}
+use Rattle.calls.proofs.CallLaws.{step-refused, step-admitted}
 use Rattle.calls.proofs.step.step_on.Statement.{statement}
 use Rattle.calls.proofs.step.step_on.Tie as tie
 

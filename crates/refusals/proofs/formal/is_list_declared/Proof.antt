@@ -1,7 +1,7 @@
 -- The count of the kind, and the list below it.
 use borrow.Author.Needs.{needs}
-use Rattle.calls.proofs.refusals.is_list_declared.Statement.{statement}
-use Rattle.calls.proofs.refusals.is_list_declared.Tie as tie
+use Rattle.refusals.proofs.formal.is_list_declared.Statement.{statement}
+use Rattle.refusals.proofs.formal.is_list_declared.Tie as tie
 
 cast-are-below : tie.Need-cast-are-below
 cast-are-below c = search needs

@@ -5,8 +5,8 @@ use mathlib.Core.List.{[], _∷_}
 use Rattle.layout.specs.declared.Mark.the-variants.{DT, DS, DB, IT, DC, AC, TE, SU, PR, CO, EN, RE, TG, EI, XI}
 use Rattle.layout.proofs.MarksLaws.{alike}
 use Rattle.machine.specs.Sorts.{sortOf}
-use Rattle.calls.proofs.sorts.sort_of.Statement.{statement}
-use Rattle.calls.proofs.sorts.sort_of.Tie as tie
+use Rattle.refusals.proofs.sorts.sort_of.Statement.{statement}
+use Rattle.refusals.proofs.sorts.sort_of.Tie as tie
 
 returns : tie.Need-returns
 returns c = alike sortOf (c .before .args .mark) (DT ∷ DS ∷ DB ∷ IT ∷ DC ∷ []) refl (c .match .keys1)

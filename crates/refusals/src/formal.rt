@@ -1,30 +1,23 @@
-// Refusals 2 to 7: what the call, the counts and the first accepted call decide. 8 to 15: what the state decides.
+// Refusals 2 to 7: what bytes, counts and the first accepted call decide.
 // `&` and `|` join tests that are all safe to make.
 ghost use mathlib.Core.Path.{_≡_};
 ghost use mathlib.Core.Bool.{_&&_};
 ghost use lib.Dec.{ltb};
 ghost use Prim.Native.Nat.{_≤_};
 ghost use Rattle.calendar.specs.Limits.{day};
-ghost use Rattle.record.specs.Refusals.{mostNumbers, shape, unless};
+ghost use Rattle.record.specs.Refusals.{mostNumbers, shape};
 ghost use Rattle.record.specs.Reading.{callWith};
-ghost use Rattle.machine.specs.Sorts.{sortOf};
-ghost use Rattle.machine.specs.Refusals.{startDeclared, listDeclared, declaredBy, roomFor, formalRefusal, admitted, unreturnable, refusalBy};
-ghost use Rattle.calls.specs.Inner.{InOrder, namedRefusal};
+ghost use Rattle.machine.specs.Refusals.{startDeclared, listDeclared, declaredBy, roomFor, formalRefusal, admitted};
 use crate::sorts::is_declaring;
 use crate::sorts::sort_of;
-use calendar::Instant;
-use calendar::LAST_INSTANT;
 use layout::Head;
 use layout::Mark;
 use layout::Numbers;
-use lock::Locks;
 use lock::MOST_LOCKS;
 use lock::Wait;
-use lock::Way;
 use machine::Counts;
 use machine::MOST_INTERRUPTS;
 use machine::MOST_TASKS;
-use machine::Running;
 use machine::Sort;
 use record::Read;
 use record::Reading;
@@ -34,10 +27,8 @@ use record::reader::open;
 use record::reader::refuse;
 use record::shape::shape_at;
 use record::times::times_of;
-use serving::ends::is_someone;
 use survey::check::are_below;
 use survey::check::count_of;
-use task::Task;
 
 // Whether there is room for a declaration.
 fn has_room(mark: Mark, n: Counts) -> bool
@@ -126,71 +117,4 @@ pub fn admit(n: Counts, begun: bool, s: &[u8]) -> Reading
         return refuse(number);
     }
     reading
-}
-
-// A refusal unless a test holds, else what the next tests give.
-fn unless(ok: bool, number: u8, rest: u8) -> u8
-    ensures { λ n. ⌜ n ≡ unless ok number rest ⌝ }
-{
-    if ok { rest } else { number }
-}
-
-// 9 to 12, or 0: a call that names the task t.
-fn named_refusal(h: Head, t: Task) -> u8
-    ensures { λ n. ⌜ n ≡ namedRefusal (h .mark) h t ⌝ }
-{
-    let mark = h.mark;
-    let hold = t.hold;
-    match mark {
-        Mark::AC => unless(!(h.kind == 0) | !t.alive, 9, 0),
-        Mark::TE => unless(t.alive, 10, 0),
-        Mark::SU => unless(t.alive, 10, unless(!hold.is_suspended(), 11, 0)),
-        Mark::CO => unless(t.alive, 10, unless(!hold.is_unheld(), 12, 0)),
-        _ => 0,
-    }
-}
-
-fn unreturnable(w: Wait) -> u8
-    ensures { λ n. ⌜ n ≡ unreturnable w ⌝ }
-{
-    match w {
-        Wait::Request => 13,
-        Wait::Nothing => 14,
-        Wait::Reserve => 14,
-        Wait::Enter => 14,
-    }
-}
-
-// The first of refusals 8 to 15, or 0, with the runner, the task that the call is about, the locks and the instant.
-pub(crate) fn state_refusal(
-    sort: Sort,
-    h: Head,
-    list: Numbers,
-    r: Running,
-    t: Task,
-    locks: Locks,
-    now: Instant,
-) -> u8
-    requires { ⌜ sort ≡ sortOf (h .mark) ⌝ }
-    requires { ⌜ InOrder (callWith h list) ⌝ }
-    ensures { λ n. ⌜ n ≡ refusalBy (h .mark) (callWith h list) r t locks now ⌝ }
-{
-    let n = h.len as usize;
-    match sort {
-        Sort::OneTask => named_refusal(h, t),
-        Sort::TheRunner => unless(is_someone(r), 8, 0),
-        Sort::ListAsked(_, _) => unless(is_someone(r), 8, 0),
-        Sort::ListGiven(w) => unless(
-            is_someone(r),
-            8,
-            unless(
-                locks.can_move_all(Way::Give, w, n, list),
-                unreturnable(w),
-                0,
-            ),
-        ),
-        Sort::EveryTask => unless(now.0 < LAST_INSTANT, 15, 0),
-        Sort::Declaration => 0,
-        Sort::AnInterrupt => 0,
-    }
 }

@@ -1,8 +1,8 @@
 -- Sort by sort.
 use borrow.Author.Needs.{needs}
 use Rattle.machine.specs.Refusals.{declaredBy}
-use Rattle.calls.proofs.refusals.is_declared.Statement.{statement}
-use Rattle.calls.proofs.refusals.is_declared.Tie as tie
+use Rattle.refusals.proofs.formal.is_declared.Statement.{statement}
+use Rattle.refusals.proofs.formal.is_declared.Tie as tie
 
 returns : tie.Need-returns
 unfolding declaredBy

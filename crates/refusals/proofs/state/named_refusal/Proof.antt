@@ -6,9 +6,9 @@ use lib.ListN.{drop}
 use Rattle.layout.specs.declared.Mark.the-variants.{DT, DS, DB, IT, DC, PR}
 use Rattle.layout.specs.Marks.{marks}
 use Rattle.layout.proofs.MarksLaws.{alike}
-use Rattle.calls.specs.Inner.{namedRefusal}
-use Rattle.calls.proofs.refusals.named_refusal.Statement.{statement}
-use Rattle.calls.proofs.refusals.named_refusal.Tie as tie
+use Rattle.refusals.specs.Inner.{namedRefusal}
+use Rattle.refusals.proofs.state.named_refusal.Statement.{statement}
+use Rattle.refusals.proofs.state.named_refusal.Tie as tie
 
 returns : tie.Need-returns
 unfolding namedRefusal

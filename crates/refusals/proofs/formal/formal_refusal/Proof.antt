@@ -5,9 +5,9 @@ use mathlib.Core.Path.{sym, _∙_}
 use Rattle.machine.specs.Sorts.{declares}
 use Rattle.machine.specs.Refusals.{formalRefusal}
 use Rattle.record.proofs.ReaderLaws.{before-some}
-use Rattle.calls.proofs.RefusalLaws.{shaped-short}
-use Rattle.calls.proofs.refusals.formal_refusal.Statement.{statement}
-use Rattle.calls.proofs.refusals.formal_refusal.Tie as tie
+use Rattle.refusals.proofs.RefusalLaws.{shaped-short}
+use Rattle.refusals.proofs.formal.formal_refusal.Statement.{statement}
+use Rattle.refusals.proofs.formal.formal_refusal.Tie as tie
 
 sort-of-requires : tie.Need-sort-of-requires
 sort-of-requires c κs = search needs

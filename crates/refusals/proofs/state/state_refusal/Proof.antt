@@ -5,9 +5,9 @@ use Rattle.record.specs.Reading.{callWith}
 use Rattle.machine.specs.declared.Sort.{Sort}
 use Rattle.machine.specs.declared.Sort.the-variants.{Declaration, OneTask, TheRunner, AnInterrupt, EveryTask}
 use Rattle.machine.specs.Refusals.{refusalBy}
-use Rattle.calls.proofs.RefusalLaws.{bySort, refusal-by}
-use Rattle.calls.proofs.refusals.state_refusal.Statement.{statement}
-use Rattle.calls.proofs.refusals.state_refusal.Tie as tie
+use Rattle.refusals.proofs.RefusalLaws.{bySort, refusal-by}
+use Rattle.refusals.proofs.state.state_refusal.Statement.{statement}
+use Rattle.refusals.proofs.state.state_refusal.Tie as tie
 
 -- The refusal by the sort x.
 by : (s : tie.Start) (x : Sort) → s .args .sort ≡ x

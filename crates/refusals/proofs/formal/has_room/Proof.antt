@@ -7,8 +7,8 @@ use Rattle.layout.specs.declared.Mark.{Mark}
 use Rattle.layout.specs.Marks.{marks}
 use Rattle.machine.specs.Refusals.{roomFor}
 use Rattle.layout.proofs.MarksLaws.{alike}
-use Rattle.calls.proofs.refusals.has_room.Statement.{statement}
-use Rattle.calls.proofs.refusals.has_room.Tie as tie
+use Rattle.refusals.proofs.formal.has_room.Statement.{statement}
+use Rattle.refusals.proofs.formal.has_room.Tie as tie
 
 enum-told : tie.Need-enum-told
 enum-told c = search needs

@@ -3,9 +3,9 @@ use borrow.Author.Needs.{needs}
 use mathlib.Core.Path.{sym, _∙_}
 use Rattle.calendar.specs.Limits.{day}
 use Rattle.record.proofs.ReaderLaws.{read-fields}
-use Rattle.calls.proofs.CallLaws.{admit-unread, admit-refused, admit-passed}
-use Rattle.calls.proofs.refusals.admit.Statement.{statement}
-use Rattle.calls.proofs.refusals.admit.Tie as tie
+use Rattle.refusals.proofs.Admitting.{admit-unread, admit-refused, admit-passed}
+use Rattle.refusals.proofs.formal.admit.Statement.{statement}
+use Rattle.refusals.proofs.formal.admit.Tie as tie
 
 returns : tie.Need-returns
 returns c =

@@ -1,5 +1,5 @@
 -- What passes the first of the formal refusals, and what the state refuses, by the sort of the mark.
-use mathlib.Core.Path.{_≡_, refl, sym, _∙_}
+use mathlib.Core.Path.{_≡_, refl}
 use mathlib.Core.Bool.{Bool, true, false, not, _||_, or-true}
 use Prim.Native.Nat.{ℕ, _≤_}
 use lib.Dec.{ltb}
@@ -15,7 +15,6 @@ use Rattle.lock.specs.Locks.{waiting, every, taken}
 use Rattle.lock.specs.declared.Locks.{Locks}
 use Rattle.lock.specs.declared.Wait.{Wait}
 use Rattle.lock.specs.declared.Wait.the-variants.{Nothing, Request, Reserve, Enter}
-use Rattle.lock.proofs.Bools.{or-then}
 use Rattle.task.specs.declared.Task.{Task}
 use Rattle.machine.specs.declared.Running.{Running}
 use Rattle.machine.specs.declared.Sort.{Sort}
@@ -25,7 +24,7 @@ use Rattle.machine.specs.Sorts.{sortOf, naming}
 use Rattle.machine.specs.Refusals.{unreturnable, refusalBy}
 use Rattle.machine.proofs.Passed.{unless-passed}
 use Rattle.machine.proofs.Sorts.{other-mark, given-waits, tick-mark}
-use Rattle.calls.specs.Inner.{Returnable, ticking, namedRefusal}
+use Rattle.refusals.specs.Inner.{ticking, namedRefusal}
 
 -- A list of a shape that isn't refused is no longer than the longest.
 pub shaped-short : (c : Call) → shape c ≡ 0 → c .head .len ≤ mostNumbers
@@ -40,10 +39,6 @@ bySort (ListAsked w b) m c r t l n = unless (someone r) 8 0
 bySort (ListGiven w) m c r t l n = unless (someone r) 8 (unless (every (taken w l) (named c)) (unreturnable w) 0)
 bySort AnInterrupt m c r t l n = 0
 bySort EveryTask m c r t l n = unless (ltb (n .0) lastInstant) 15 0
-
--- What a list gives back can be given back.
-pub given-back : (m : Mark) (c : Call) (l : Locks) {s : Sort} {w : Wait} → s ≡ sortOf m → s ≡ ListGiven w → Returnable s l c → every (taken w l) (named c) ≡ true
-given-back m c l {w = w} q e b = or-then (waiting w) _ (rw e at b) (given-waits m (sym q ∙ e))
 
 module _ (c : Call) (r : Running) (t : Task) (l : Locks) (n : Instant) where
   pub refusal-by : (m : Mark) (s : Sort) → sortOf m ≡ s → bySort s m c r t l n ≡ refusalBy m c r t l n

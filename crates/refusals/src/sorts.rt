@@ -1,12 +1,12 @@
 // What a mark is about.
 ghost use mathlib.Core.Path.{_≡_};
 ghost use Rattle.machine.specs.Sorts.{sortOf, declaring, naming};
-ghost use Rattle.calls.specs.Inner.{aboutOne, ticking};
+ghost use Rattle.refusals.specs.Inner.{aboutOne, ticking};
 use layout::Mark;
 use lock::Wait;
 use machine::Sort;
 
-pub(crate) fn sort_of(mark: Mark) -> Sort
+pub fn sort_of(mark: Mark) -> Sort
     ensures { λ s. ⌜ s ≡ sortOf mark ⌝ }
 {
     match mark {
@@ -25,7 +25,7 @@ pub(crate) fn sort_of(mark: Mark) -> Sort
     }
 }
 
-pub(crate) fn is_declaring(sort: Sort) -> bool
+pub fn is_declaring(sort: Sort) -> bool
     ensures { λ r. ⌜ r ≡ declaring sort ⌝ }
 {
     match sort {
@@ -40,7 +40,7 @@ pub(crate) fn is_declaring(sort: Sort) -> bool
 }
 
 // One task and the locks.
-pub(crate) fn is_about_one(sort: Sort) -> bool
+pub fn is_about_one(sort: Sort) -> bool
     ensures { λ r. ⌜ r ≡ aboutOne sort ⌝ }
 {
     match sort {
@@ -54,7 +54,7 @@ pub(crate) fn is_about_one(sort: Sort) -> bool
     }
 }
 
-pub(crate) fn is_ticking(sort: Sort) -> bool
+pub fn is_ticking(sort: Sort) -> bool
     ensures { λ r. ⌜ r ≡ ticking sort ⌝ }
 {
     match sort {
@@ -69,7 +69,7 @@ pub(crate) fn is_ticking(sort: Sort) -> bool
 }
 
 // The task that the call names.
-pub(crate) fn is_naming(sort: Sort) -> bool
+pub fn is_naming(sort: Sort) -> bool
     ensures { λ r. ⌜ r ≡ naming sort ⌝ }
 {
     match sort {

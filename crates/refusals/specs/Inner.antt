@@ -1,0 +1,50 @@
+-- Names for the contracts of inner functions. The machine doesn't use them.
+use mathlib.Core.Path.{_≡_}
+use mathlib.Core.Bool.{Bool, true, false, not, _&&_, _||_}
+use Prim.Native.Nat.{ℕ, _≤_}
+use lib.Dec.{ltb, eqb}
+use Rattle.layout.specs.Marks.{is}
+use Rattle.layout.specs.declared.Call.{Call}
+use Rattle.layout.specs.declared.Head.{Head}
+use Rattle.layout.specs.declared.Mark.{Mark}
+use Rattle.layout.specs.declared.Mark.the-variants.{AC, TE, SU, CO}
+use Rattle.record.specs.Lists.{distinct}
+use Rattle.record.specs.Refusals.{mostNumbers, named, unless}
+use Rattle.lock.specs.Locks.{mostLocks, every}
+use Rattle.task.specs.State.{unheld, suspended}
+use Rattle.task.specs.declared.Task.{Task}
+use Rattle.machine.specs.declared.Sort.{Sort}
+use Rattle.machine.specs.declared.Sort.the-variants.{Declaration, OneTask, TheRunner, ListAsked, ListGiven, AnInterrupt, EveryTask}
+
+-- A call's list, if it has one, is in order: at most four numbers, none twice, each with a place in the tables.
+pub record InOrder (c : Call) : Type 0 where
+  pub short : c .head .len ≤ mostNumbers
+  pub once : distinct (named c) ≡ true
+  pub below : every (λ x. ltb x mostLocks) (named c) ≡ true
+
+-- 9 to 12, or 0: the refusals of a call that names the task t.
+unfoldable pub namedRefusal : Mark → Head → Task → ℕ
+namedRefusal m h t =
+    unless (not (is m AC && eqb (h .kind) 0) || not (t .alive)) 9
+    (unless (not (is m TE || is m SU || is m CO) || t .alive) 10
+    (unless (not (is m SU) || not (suspended (t .hold))) 11
+    (unless (not (is m CO) || not (unheld (t .hold))) 12 0)))
+
+-- A call of the sort is about one task and the locks.
+abbrev pub aboutOne : Sort → Bool
+aboutOne Declaration = false
+aboutOne OneTask = true
+aboutOne TheRunner = true
+aboutOne (ListAsked w b) = true
+aboutOne (ListGiven w) = true
+aboutOne AnInterrupt = false
+aboutOne EveryTask = false
+
+abbrev pub ticking : Sort → Bool
+ticking Declaration = false
+ticking OneTask = false
+ticking TheRunner = false
+ticking (ListAsked w b) = false
+ticking (ListGiven w) = false
+ticking AnInterrupt = false
+ticking EveryTask = true

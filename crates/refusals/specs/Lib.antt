@@ -1,0 +1,2 @@
+-- Names for the contracts of inner functions.
+pub mod Inner
