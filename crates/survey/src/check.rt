@@ -93,7 +93,13 @@ fn are_terms_ok(s: Schedule) -> bool
     ensures { λ r. ⌜ r ≡ termsOk day s ⌝ }
 {
     let end = s.end;
-    is_priority(s.priority) & is_period(s.period) & is_end_ok(end)
+    if !is_priority(s.priority) {
+        return false;
+    }
+    if !is_period(s.period) {
+        return false;
+    }
+    is_end_ok(end)
 }
 
 fn is_listener_ok(interrupts: u8, a: Alarm) -> bool
@@ -108,7 +114,15 @@ fn is_alarm_ok(interrupts: u8, a: Alarm) -> bool
 {
     let plan = a.plan;
     let next = a.next;
-    (!plan.is_listening() | is_listener_ok(interrupts, a)) & (!plan.is_pending() | is_stored(next))
+    if plan.is_listening() {
+        if !is_listener_ok(interrupts, a) {
+            return false;
+        }
+    }
+    if plan.is_pending() {
+        return is_stored(next);
+    }
+    true
 }
 
 // The last due, while one is to come.
@@ -127,7 +141,13 @@ pub fn is_schedule_ok(interrupts: u8, s: Schedule) -> bool
     ensures { λ r. ⌜ r ≡ scheduleOk day interrupts s ⌝ }
 {
     let alarm = s.alarm;
-    is_alarm_ok(interrupts, alarm) & is_last_ok(s) & are_terms_ok(s)
+    if !is_alarm_ok(interrupts, alarm) {
+        return false;
+    }
+    if !is_last_ok(s) {
+        return false;
+    }
+    are_terms_ok(s)
 }
 
 pub fn is_planned(p: Plan) -> bool

@@ -1,20 +1,35 @@
--- What the calls ensure.
+-- One part after the other.
 use borrow.Author.Needs.{needs}
+use borrow.Author.Tests.{not-true, not-false}
 use Rattle.survey.proofs.check.are_terms_ok.Statement.{statement}
 use Rattle.survey.proofs.check.are_terms_ok.Tie as tie
 
 is-priority-requires : tie.Need-is-priority-requires
 is-priority-requires c κs = search needs
 
+returns : tie.Need-returns
+returns c = rw (← c .before .is-priority .ensures, not-true (c .before .is-priority .result) (c .if1 .taken))
+
 is-period-requires : tie.Need-is-period-requires
 is-period-requires c κs = search needs
+
+returns-2 : tie.Need-returns-2
+returns-2 c = rw (← c .before .before .before .is-priority .ensures, not-false (c .before .before .before .is-priority .result) (c .before .before .if1 .left), ← c .before .is-period .ensures, not-true (c .before .is-period .result) (c .if2 .taken))
 
 is-end-ok-requires : tie.Need-is-end-ok-requires
 is-end-ok-requires c κs = search needs
 
-returns : tie.Need-returns
-returns c = rw (c .is-end-ok .ensures, c .before .is-period .ensures, c .before .before .is-priority .ensures)
+returns-3 : tie.Need-returns-3
+returns-3 c = let p = c .before .before in
+    rw (← p .before .before .is-priority .ensures, not-false (p .before .before .is-priority .result) (p .before .if1 .left), ← p .is-period .ensures, not-false (p .is-period .result) (c .before .if2 .left)) (c .is-end-ok .ensures)
 
 pub are-terms-ok-spec : {M : Type 1} → statement M
 are-terms-ok-spec =
-    tie.close (tie.spec is-priority-requires is-period-requires is-end-ok-requires returns)
+    tie.close
+    (tie.spec
+    is-priority-requires
+    returns
+    is-period-requires
+    returns-2
+    is-end-ok-requires
+    returns-3)

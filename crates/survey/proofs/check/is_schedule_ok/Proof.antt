@@ -1,5 +1,6 @@
--- What the calls ensure.
+-- One part after the other.
 use borrow.Author.Needs.{needs}
+use borrow.Author.Tests.{not-true, not-false}
 use Rattle.machine.specs.Test.{scheduleOk}
 use Rattle.survey.proofs.check.is_schedule_ok.Statement.{statement}
 use Rattle.survey.proofs.check.is_schedule_ok.Tie as tie
@@ -7,16 +8,48 @@ use Rattle.survey.proofs.check.is_schedule_ok.Tie as tie
 is-alarm-ok-requires : tie.Need-is-alarm-ok-requires
 is-alarm-ok-requires c κs = search needs
 
+returns : tie.Need-returns
+unfolding scheduleOk
+returns c = rw (c .before .before .before .pre, ← c .before .is-alarm-ok .ensures, not-true (c .before .is-alarm-ok .result) (c .if1 .taken))
+
 is-last-ok-requires : tie.Need-is-last-ok-requires
 is-last-ok-requires c κs = search needs
+
+returns-2 : tie.Need-returns-2
+unfolding scheduleOk
+returns-2 c =
+    let p = c .before .before in
+    rw (
+      p .before .before .before .pre,
+      ← p .before .is-alarm-ok .ensures,
+      not-false (p .before .is-alarm-ok .result) (p .if1 .left),
+      ← c .before .is-last-ok .ensures,
+      not-true (c .before .is-last-ok .result) (c .if2 .taken),
+    )
 
 are-terms-ok-requires : tie.Need-are-terms-ok-requires
 are-terms-ok-requires c κs = search needs
 
-returns : tie.Need-returns
+returns-3 : tie.Need-returns-3
 unfolding scheduleOk
-returns c = rw (c .before .before .before .before .pre, c .are-terms-ok .ensures, c .before .is-last-ok .ensures, c .before .before .is-alarm-ok .ensures)
+returns-3 c =
+    let q = c .before .before in
+    let p = q .before in
+    rw (
+      p .before .before .before .pre,
+      ← p .before .is-alarm-ok .ensures,
+      not-false (p .before .is-alarm-ok .result) (p .if1 .left),
+      ← q .is-last-ok .ensures,
+      not-false (q .is-last-ok .result) (c .before .if2 .left),
+    ) (c .are-terms-ok .ensures)
 
 pub is-schedule-ok-spec : {M : Type 1} → statement M
 is-schedule-ok-spec =
-    tie.close (tie.spec is-alarm-ok-requires is-last-ok-requires are-terms-ok-requires returns)
+    tie.close
+    (tie.spec
+    is-alarm-ok-requires
+    returns
+    is-last-ok-requires
+    returns-2
+    are-terms-ok-requires
+    returns-3)
