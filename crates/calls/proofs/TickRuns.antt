@@ -30,7 +30,7 @@ use Rattle.machine.specs.Running.{urgency, mostUrgent, runningOf}
 use Rattle.machine.specs.declared.Running.{Running}
 use Rattle.machine.specs.declared.Running.the-variants.{Idle, Runs}
 use Rattle.machine.proofs.Below.{Found, scan-finds, mostUrgent-at}
-use Rattle.survey.specs.Leads.{nobody, noLead, leadOf, against, Leads}
+use Rattle.survey.specs.Leads.{nobody, noLead, leadOf, against, Weighed, Leads}
 use Rattle.survey.specs.declared.scan.Lead.{Lead}
 use Rattle.survey.proofs.LeadLaws.{canRun, leads-nobody, leads-one}
 use Rattle.calls.specs.Stirring.{mayStir}
@@ -125,27 +125,26 @@ pub record Leading (ts : List Task) (c : ℕ) (lead : Lead) : Type 0 where
 pub leading-none : (ts : List Task) (c : ℕ) → length ts ≡ mostTasks → runningOf c ts ≡ Idle → {lead : Lead} → lead ≡ noLead → Leading ts c lead
 leading-none ts c f e q = record { long = f; leads = rw (q, e) (leads-nobody (urgency ts)) }
 
-pub leading-from : (ts : List Task) (c j : ℕ) → length ts ≡ mostTasks → runningOf c ts ≡ Runs j → {u : ℕ} {none lead : Lead}
-    → (u ≡ mostTasks * taskAt ts j .current + j) × (u < nobody) → none ≡ noLead → lead ≡ against none true u j → Leading ts c lead
+pub leading-from : (ts : List Task) (c j : ℕ) → length ts ≡ mostTasks → runningOf c ts ≡ Runs j → {none lead : Lead}
+    → none ≡ noLead → Weighed none true (mostTasks * taskAt ts j .current + j) j lead → Leading ts c lead
 unfolding against urgency
-leading-from ts c j f e v z q = record { long = f; leads = rw (q, z, lt-ltb _ _ (v .1), e, v .0) (leads-one (urgency ts) j (rw (v .0) at (v .1))) }
+leading-from ts c j f e z q = record { long = f; leads = rw (q .lead, z, lt-ltb _ _ (q .small), e) (leads-one (urgency ts) j (q .small)) }
 
 -- Task i has had its turn,
-pub leading-more : (n : Instant) (ts : List Task) (c i : ℕ) → i < c → c ≤ mostTasks → {ts′ : List Task} {lead lead′ : Lead} {runs : Bool} {v : ℕ}
+pub leading-more : (n : Instant) (ts : List Task) (c i : ℕ) → i < c → c ≤ mostTasks → {ts′ : List Task} {lead lead′ held : Lead} {runs : Bool}
     → (u : Turn) → u ≡ tickTurn n (taskAt ts i) → Leading ts c lead → ts′ ≡ set ts i (u .task) → runs ≡ runnable (u .task)
-    → (v ≡ mostTasks * u .task .current + i) × (v < nobody) → lead′ ≡ against lead runs v i
-    → Leading ts′ c lead′
+    → Weighed lead runs (mostTasks * u .task .current + i) i held → lead′ ≡ held → Leading ts′ c lead′
 unfolding runningOf urgency
-leading-more n ts c i l b {lead = lead} u e h a r v q =
+leading-more n ts c i l b {lead = lead} u e h a r q z =
     let ts′ = set ts i (u .task) in
     let there : taskAt ts′ i ≡ u .task = getD-set-same ts i (u .task) noTask (omega (arith, h .long)) in
     let moved =
     leads-set c (canRun ts) (canRun ts′) (urgency ts) (urgency ts′) i l
     (λ j ne. let o = getD-set-other ts i j (u .task) noTask ne in (rw o, rw o))
     (λ x. rw (there, e) (let s = runs-on n (taskAt ts i) x in (s .0, rw (s .1))))
-    (rw (there, ← v .0) (v .1))
+    (rw there (q .small))
     (λ i j x y z. omega arith) lead (h .leads) in
-    rw a (record { long = length-set ts i (u .task) ∙ h .long; leads = rw (q, r, v .0) (rw there at moved) })
+    rw a (record { long = length-set ts i (u .task) ∙ h .long; leads = rw (z, q .lead, r) (rw there at moved) })
 
 -- or was passed over.
 pub leading-still : {ts ts′ : List Task} {c : ℕ} {lead lead′ : Lead} → Leading ts c lead → ts′ ≡ ts → lead′ ≡ lead → Leading ts′ c lead′

@@ -32,7 +32,6 @@ use serving::ends::done;
 use serving::ends::finished;
 use serving::ends::no_marks;
 use survey::scan::no_lead;
-use survey::scan::urgency_of;
 use survey::sets::put_if;
 use task::Hold;
 use task::Turn;
@@ -109,7 +108,7 @@ pub(crate) fn ticked(mut k: State, r: Running) -> Stepped
     let mut lead = no_lead();
     if let Running::Runs(j) = r {
         let at = j as usize;
-        lead = lead.against(true, urgency_of(k.tasks[at].current, at), at);
+        lead = lead.against_if(true, k.tasks[at].current, at);
     }
     for i in 0..most {
         let t = k.tasks[i];
@@ -122,7 +121,7 @@ pub(crate) fn ticked(mut k: State, r: Running) -> Stepped
             let after = u.task;
             k.tasks[i] = after;
             m = marked(m, i, u);
-            lead = lead.against(after.is_runnable(), urgency_of(after.current, i), i);
+            lead = lead.against_if(after.is_runnable(), after.current, i);
         }
     }
     let runner = lead.who();

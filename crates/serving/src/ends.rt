@@ -82,7 +82,7 @@ fn next_served(k: State) -> Running
                 continue 'tasks;
             }
         }
-        lead = lead.against(true, u, i);
+        lead = lead.against(u, i);
     }
     lead.who()
 }
@@ -208,7 +208,7 @@ pub fn finished(k: State, m: Marks) -> Stepped
         let hold = t.hold;
         let runs = can_run(k.tasks[i].alive, wait, hold);
         waits = waits | is_waiting(wait);
-        lead = lead.against(runs, urgency_of(k.tasks[i].current, i), i);
+        lead = lead.against_if(runs, k.tasks[i].current, i);
     }
     if waits {
         if is_someone(next_served(k)) {

@@ -16,7 +16,7 @@ use Rattle.machine.specs.State.{mostTasks, taskAt}
 use Rattle.machine.specs.Running.{urgency, better, mostUrgent, runningOf}
 use Rattle.machine.specs.declared.Running.{Running}
 use Rattle.machine.specs.declared.Running.the-variants.{Idle, Runs}
-use Rattle.survey.specs.Leads.{nobody, noLead, leadOf, against, whose, Leads}
+use Rattle.survey.specs.Leads.{nobody, noLead, leadOf, against, Weighed, whose, Leads}
 use Rattle.survey.specs.declared.scan.Lead.{Lead}
 
 -- The lead among the first n places, of those that pass a test.
@@ -49,15 +49,17 @@ module _ (test : ℕ → Bool) (ts : List Task) (i : ℕ) where
   unfolding mostUrgent
   led-passed e h = rw (add-one, e) h
 
-  -- The lead r that a scan has once it has looked at task i: b is what the test said, u the urgency.
-  pub led-more : {b : Bool} {u : ℕ} {lead r : Lead}
-      → b ≡ test i → (u ≡ mostTasks * taskAt ts i .current + i) × (u < nobody) → Led i test ts lead → r ≡ against lead b u i
-      → Led (i + 1) test ts r
+  -- The lead r that a scan has once it has looked at task i: b is what the test said.
+  pub led-more : {b : Bool} {lead r : Lead} → b ≡ test i → Led i test ts lead → Weighed lead b (mostTasks * taskAt ts i .current + i) i r → Led (i + 1) test ts r
   unfolding urgency mostUrgent against
-  led-more {lead = lead} e v h q =
+  led-more {lead = lead} e h q =
       byBool (test i)
-      (λ t. rw (q, e, v .0, add-one, t) (leads-better (urgency ts) i (rw (v .0) at (v .1)) _ lead h))
-      (λ t. rw (q, e, add-one, t) h)
+      (λ t. rw (q .lead, e, add-one, t) (leads-better (urgency ts) i (q .small) _ lead h))
+      (λ t. rw (q .lead, e, add-one, t) h)
+
+-- With the urgency u as it was found.
+pub weighed : {l r : Lead} {b : Bool} {u v i : ℕ} → (u ≡ v) × (u < nobody) → r ≡ against l b u i → Weighed l b v i r
+weighed e q = record { small = rw (e .0) at (e .1); lead = q ∙ rw (e .0) }
 
 -- A task that is no more urgent leaves the lead as it was.
 pub against-later : (l : Lead) (b : Bool) (u i : ℕ) → l .urgency ≤ u → against l b u i ≡ l

@@ -17,7 +17,7 @@ use Rattle.machine.specs.Running.{runningOf, runner}
 use Rattle.machine.specs.Test.{allBelow, valid}
 use Rattle.machine.specs.declared.State.{State}
 use Rattle.machine.specs.declared.Running.{Running}
-use Rattle.survey.specs.Leads.{nobody, noLead, against, whose}
+use Rattle.survey.specs.Leads.{noLead, Weighed, whose}
 use Rattle.survey.specs.Looks.{stirsNext, unfit, surveyed}
 use Rattle.survey.specs.declared.scan.Lead.{Lead}
 use Rattle.survey.proofs.LeadLaws.{Led, canRun, led-none, led-more}
@@ -43,18 +43,17 @@ module _ (day : ℕ) (k : State) (x : Instant) where
 
   module _ {i : ℕ} {stirs : Bool} {lead : Lead} (p : Looked day k x i stirs lead) where
     pub looked-next :
-        i < k .counts .tasks → {some runs : Bool} {u : ℕ} {after : Lead} → fitAt day k i ≡ true
+        i < k .counts .tasks → {some runs : Bool} {after : Lead} → fitAt day k i ≡ true
         → some ≡ (stirs || falls x (taskAt (k .tasks) i .schedule .alarm) || delayEnds x (taskAt (k .tasks) i .hold))
         → runs ≡ canRun (k .tasks) i
-        → (u ≡ mostTasks * taskAt (k .tasks) i .current + i) × (u < nobody)
-        → after ≡ against lead runs u i
+        → Weighed lead runs (mostTasks * taskAt (k .tasks) i .current + i) i after
         → Looked day k x (i + 1) some after
     unfolding allBelow
-    looked-next less fits c r v a =
+    looked-next less fits c r a =
         record {
           tasks = upto-passes (p .tasks) less fits;
           comings = c ∙ rw (add-one, p .comings, comes-parts x (taskAt (k .tasks) i)) (one (allBelow i _) _ _);
-          leads = led-more (canRun (k .tasks)) (k .tasks) i r v (p .leads) a;
+          leads = led-more (canRun (k .tasks)) (k .tasks) i r (p .leads) a;
         }
       where
         one : (a f d : Bool) → (not a || f || d) ≡ not (a && not (f || d))

@@ -1,7 +1,7 @@
 -- The task that leads a scan, and how urgent it is.
 use mathlib.Core.Path.{_≡_}
 use mathlib.Core.Bool.{Bool, cond, _&&_}
-use Prim.Native.Nat.{ℕ}
+use Prim.Native.Nat.{ℕ, _<_}
 use lib.Dec.{leb, ltb}
 use Rattle.machine.specs.declared.Running.{Running}
 use Rattle.machine.specs.declared.Running.the-variants.{Idle, Runs}
@@ -17,6 +17,11 @@ noLead = record { urgency = nobody; task = 0 }
 -- A task i of urgency u is held against the lead, if it counts.
 unfoldable pub against : Lead → Bool → ℕ → ℕ → Lead
 against l counts u i = cond (counts && ltb u (l .urgency)) (record { urgency = u; task = i }) l
+
+-- So it is done, with an urgency that a task can have.
+pub record Weighed (l : Lead) (counts : Bool) (u i : ℕ) (r : Lead) : Type 0 where
+  pub small : u < nobody
+  pub lead : r ≡ against l counts u i
 
 -- Who leads.
 unfoldable pub whose : Lead → Running

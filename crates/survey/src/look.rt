@@ -13,7 +13,6 @@ use crate::check::is_planned;
 use crate::check::is_schedule_ok;
 use crate::scan::can_run;
 use crate::scan::no_lead;
-use crate::scan::urgency_of;
 use calendar::Duration;
 use calendar::LAST_INSTANT;
 use calendar::is_time_of_day;
@@ -85,7 +84,7 @@ pub fn survey(k: State) -> Survey
             stirs = stirs | hold.ends_at(at);
             runs = can_run(runs, wait, hold);
         }
-        lead = lead.against(runs, urgency_of(current, i), i);
+        lead = lead.against_if(runs, current, i);
     }
     Survey {
         ok: true,

@@ -1,12 +1,12 @@
 // The order of urgency, who leads a scan, and the running task.
 ghost use mathlib.Core.Path.{_≡_};
-ghost use mathlib.Core.Bool.{not, _&&_};
+ghost use mathlib.Core.Bool.{true, not, _&&_};
 ghost use Prim.Native.Nat.{_+_, _*_, _<_, min};
 ghost use Rattle.lock.specs.Locks.{waiting};
 ghost use Rattle.task.specs.State.{unheld};
 ghost use Rattle.machine.specs.State.{mostTasks};
 ghost use Rattle.machine.specs.Running.{runner};
-ghost use Rattle.survey.specs.Leads.{nobody, noLead, against, whose};
+ghost use Rattle.survey.specs.Leads.{nobody, noLead, against, whose, Weighed};
 use lock::Wait;
 use lock::is_waiting;
 use machine::Running;
@@ -35,16 +35,27 @@ pub fn no_lead() -> Lead
 }
 
 impl Lead {
-    // Task i is held against the lead, if it counts: the more urgent one leads.
-    pub fn against(self, counts: bool, urgency: u32, i: usize) -> Lead
+    // Task i is held against the lead: the more urgent one leads.
+    pub fn against(self, urgency: u32, i: usize) -> Lead
         requires { ⌜ i < mostTasks ⌝ }
-        ensures { λ r. ⌜ r ≡ against self counts urgency i ⌝ }
+        ensures { λ r. ⌜ r ≡ against self true urgency i ⌝ }
     {
-        if counts & (urgency < self.urgency) {
-            let task = i as u8;
-            return Lead { urgency, task };
+        if self.urgency <= urgency {
+            return self;
         }
-        self
+        let task = i as u8;
+        Lead { urgency, task }
+    }
+
+    // The same for a task that counts or not. Its urgency is found only if it counts.
+    pub fn against_if(self, counts: bool, current: u8, i: usize) -> Lead
+        requires { ⌜ i < mostTasks ⌝ }
+        ensures { λ r. ⌜ Weighed self counts (mostTasks * current + i) i r ⌝ }
+    {
+        if !counts {
+            return self;
+        }
+        self.against(urgency_of(current, i), i)
     }
 
     // The task that leads, or nobody.
@@ -99,7 +110,7 @@ pub fn running(k: State) -> Running
         let wait = t.wait;
         let hold = t.hold;
         let runs = can_run(k.tasks[i].alive, wait, hold);
-        lead = lead.against(runs, urgency_of(k.tasks[i].current, i), i);
+        lead = lead.against_if(runs, k.tasks[i].current, i);
     }
     lead.who()
 }

@@ -105,7 +105,7 @@ made c =
     let i = l .before .loop .i in
     let t = taskAt (l .before .loop .k .tasks) i in
     ⊎-elim
-    (λ w. made-more f k i (less l) (l .before .loop .inv .1) (w .2 .result) (w .2 .ensures) (w .8) (w .9 ∙ w .4 .ensures))
+    (λ w. made-more f k i (less l) (l .before .loop .inv .1) (w .2 .result) (w .2 .ensures) (w .7) (w .8 ∙ w .4 .ensures))
     (λ w. made-still f k i (less l) (l .before .loop .inv .1) (still n t (unstirred n t (sym (c .before .may-stir .ensures) ∙ w .0 .left))) (w .1) (w .2))
     (c .if2 .came)
 
@@ -118,7 +118,7 @@ led c =
     ⊎-elim
     (λ w.
     leading-more (moment p) (k .tasks) (state p .counts .tasks) (l .before .loop .i) (l .loop-test .taken) (fits p) (w .2 .result) (w .2 .ensures)
-    h (ap (λ (q : State). q .tasks) (w .8)) (w .5 .ensures) (w .6 .ensures) (w .10 ∙ w .7 .ensures))
+    h (ap (λ (q : State). q .tasks) (w .7)) (w .5 .ensures) (w .6 .ensures) (w .9))
     (λ w. leading-still h (ap (λ (q : State). q .tasks) (w .1)) (w .3))
     (c .if2 .came)
 
@@ -168,17 +168,14 @@ enum-known-r c = search needs
 cast-at : tie.Need-cast-at Inv-loop μ-loop
 cast-at c = search needs
 
-mul-urgency-of : tie.Need-mul-urgency-of Inv-loop μ-loop
-mul-urgency-of c = omega (arith, below c)
+mul-against-if : tie.Need-mul-against-if Inv-loop μ-loop
+mul-against-if c = omega (arith, below c)
 
-element-copy-out-urgency-of : tie.Need-element-copy-out-urgency-of Inv-loop μ-loop
-element-copy-out-urgency-of c = omega (arith, below c)
+element-copy-out-against-if : tie.Need-element-copy-out-against-if Inv-loop μ-loop
+element-copy-out-against-if c = omega (arith, below c)
 
-urgency-of-requires : tie.Need-urgency-of-requires Inv-loop μ-loop
-urgency-of-requires c κs = below c
-
-against-requires : tie.Need-against-requires Inv-loop μ-loop
-against-requires c κs = below (c .before)
+against-if-requires : tie.Need-against-if-requires Inv-loop μ-loop
+against-if-requires c κs = below c
 
 enum-told : tie.Need-enum-told Inv-loop μ-loop
 enum-told c = search needs
@@ -191,7 +188,7 @@ loop-holds c =
       search needs,
       rw (o .before .no-marks .ensures) (made-none _ _),
       ⊎-elim
-          (λ w. leading-from (k .tasks) (k .counts .tasks) (w .1 .given .0 .0) (tasks-long k (good p)) (runner-is p (w .1 .given .1)) (w .3 .ensures) (o .no-lead .ensures) (w .5 ∙ w .4 .ensures))
+          (λ w. leading-from (k .tasks) (k .counts .tasks) (w .1 .given .0 .0) (tasks-long k (good p)) (runner-is p (w .1 .given .1)) (o .no-lead .ensures) (rw (w .4) (w .3 .ensures)))
           (λ w. leading-none (k .tasks) (k .counts .tasks) (tasks-long k (good p)) (runner-is p (w .1 .given .1)) (w .2 ∙ o .no-lead .ensures))
           (c .match .came),
     )
@@ -226,11 +223,8 @@ marked-requires c κs = omega (arith, inside (c .before .before .before .before 
 is-runnable-requires : tie.Need-is-runnable-requires Inv-loop μ-loop
 is-runnable-requires c κs = search needs
 
-urgency-of-requires-2 : tie.Need-urgency-of-requires-2 Inv-loop μ-loop
-urgency-of-requires-2 c κs = omega (arith, inside (c .before .before .before .before .before .before .before .before .before .before))
-
-against-requires-2 : tie.Need-against-requires-2 Inv-loop μ-loop
-against-requires-2 c κs = omega (arith, inside (c .before .before .before .before .before .before .before .before .before .before .before))
+against-if-requires-2 : tie.Need-against-if-requires-2 Inv-loop μ-loop
+against-if-requires-2 c κs = omega (arith, inside (c .before .before .before .before .before .before .before .before .before .before))
 
 add-i : tie.Need-add-i Inv-loop μ-loop
 add-i c = omega (arith, inside (here c))
@@ -276,10 +270,9 @@ ticked-spec =
     no-lead-requires
     enum-known-r
     cast-at
-    mul-urgency-of
-    element-copy-out-urgency-of
-    urgency-of-requires
-    against-requires
+    mul-against-if
+    element-copy-out-against-if
+    against-if-requires
     enum-told
     loop-holds
     mul-t
@@ -292,8 +285,7 @@ ticked-spec =
     element-set-from-after
     marked-requires
     is-runnable-requires
-    urgency-of-requires-2
-    against-requires-2
+    against-if-requires-2
     add-i
     loop-less
     loop-again

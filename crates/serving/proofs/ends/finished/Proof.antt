@@ -54,17 +54,14 @@ can-run-requires c κs = search needs
 is-waiting-requires : tie.Need-is-waiting-requires Inv-loop μ-loop
 is-waiting-requires c κs = search needs
 
-mul-urgency-of : tie.Need-mul-urgency-of Inv-loop μ-loop
-mul-urgency-of c = search needs
+mul-against-if : tie.Need-mul-against-if Inv-loop μ-loop
+mul-against-if c = search needs
 
-element-copy-out-urgency-of : tie.Need-element-copy-out-urgency-of Inv-loop μ-loop
-element-copy-out-urgency-of c = search needs
+element-copy-out-against-if : tie.Need-element-copy-out-against-if Inv-loop μ-loop
+element-copy-out-against-if c = search needs
 
-urgency-of-requires : tie.Need-urgency-of-requires Inv-loop μ-loop
-urgency-of-requires c κs = search needs
-
-against-requires : tie.Need-against-requires Inv-loop μ-loop
-against-requires c κs = search needs
+against-if-requires : tie.Need-against-if-requires Inv-loop μ-loop
+against-if-requires c κs = search needs
 
 add-i : tie.Need-add-i Inv-loop μ-loop
 add-i c = search needs
@@ -74,12 +71,12 @@ loop-less c = search needs
 
 loop-again : tie.Need-loop-again Inv-loop μ-loop
 loop-again c =
-    let l = c .before .before .before .before .before .before in
+    let l = c .before .before .before .before .before in
     let s = l .before .before .before .before in
     let ts = s .args .t1 .tasks in (
       search needs,
-      led-more (canRun ts) ts (l .loop .i) (c .before .before .before .can-run .ensures) (c .before .urgency-of .ensures) (l .loop .inv .1) (c .against .ensures),
-      λ e. let w = neither (l .loop .waits) (c .before .before .is-waiting .result) e in none-more (l .loop .i) ts (l .loop .inv .2 (w .0)) (sym (c .before .before .is-waiting .ensures) ∙ w .1),
+      led-more (canRun ts) ts (l .loop .i) (c .before .before .can-run .ensures) (l .loop .inv .1) (c .against-if .ensures),
+      λ e. let w = neither (l .loop .waits) (c .before .is-waiting .result) e in none-more (l .loop .i) ts (l .loop .inv .2 (w .0)) (sym (c .before .is-waiting .ensures) ∙ w .1),
     )
 
 next-served-requires : tie.Need-next-served-requires Inv-loop μ-loop
@@ -139,10 +136,9 @@ finished-spec =
     element-copy-out-can-run
     can-run-requires
     is-waiting-requires
-    mul-urgency-of
-    element-copy-out-urgency-of
-    urgency-of-requires
-    against-requires
+    mul-against-if
+    element-copy-out-against-if
+    against-if-requires
     add-i
     loop-less
     loop-again

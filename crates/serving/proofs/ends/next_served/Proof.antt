@@ -13,7 +13,7 @@ use Rattle.machine.specs.State.{mostTasks, taskAt}
 use Rattle.machine.specs.Granting.{available, servable}
 use Rattle.machine.specs.declared.State.{State}
 use Rattle.survey.proofs.Owned.{Owned, list-long}
-use Rattle.survey.proofs.LeadLaws.{Led, led-none, led-more, led-passed, against-later}
+use Rattle.survey.proofs.LeadLaws.{Led, led-none, led-more, led-passed, weighed, against-later}
 use Rattle.serving.proofs.WaitLaws.{Listed, tasks-fit, listed, servable-idle, servable-each}
 use Rattle.serving.proofs.ends.next_served.Statement.{statement}
 use Rattle.serving.proofs.ends.next_served.Tie as tie
@@ -133,7 +133,7 @@ tasks-again-2 c =
     let u = c .before .before .urgency-of in
     let d = c .before .before .before .before .before .before in
     let l = d .before .tasks in
-    (search needs, led-more (canServe (kOf d)) (kOf d .tasks) (iOf d) refl (u .ensures) (l .inv .1) (sym (against-later (l .lead) _ (u .result) (iOf d) (c .if2 .taken))))
+    (search needs, led-more (canServe (kOf d)) (kOf d .tasks) (iOf d) refl (l .inv .1) (weighed (u .ensures) (sym (against-later (l .lead) _ (u .result) (iOf d) (c .if2 .taken)))))
 
 mul-m : tie.Need-mul-m Inv-loop μ-loop Inv-tasks μ-tasks
 mul-m c = omega (arith, placed (inP c))
@@ -212,7 +212,7 @@ tasks-again-4 c =
     let d = inP p in
     let l = c .before .before .loop in
     let e = servable-each _ (kOf d .tasks) (kOf d .locks) (iOf d) (waits p) ∙ sym (all-pass (l .inv .1) (c .before .loop-test .left)) in
-    (omega (arith, d .tasks-test .taken, l .inv .0), rw (l .inv .0) (led-more (canServe (kOf d)) (kOf d .tasks) (iOf d) (sym e) (p .before .before .urgency-of .ensures) (d .before .tasks .inv .1) (rw (l .inv .0) at (c .against .ensures))))
+    (omega (arith, d .tasks-test .taken, l .inv .0), rw (l .inv .0) (led-more (canServe (kOf d)) (kOf d .tasks) (iOf d) (sym e) (d .before .tasks .inv .1) (weighed (p .before .before .urgency-of .ensures) (rw (l .inv .0) at (c .against .ensures)))))
 
 who-requires : tie.Need-who-requires Inv-loop μ-loop Inv-tasks μ-tasks
 who-requires c κs = search needs

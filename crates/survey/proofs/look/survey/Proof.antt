@@ -312,27 +312,24 @@ ends-at-requires c κs = search needs
 can-run-requires : tie.Need-can-run-requires Inv-loop μ-loop
 can-run-requires c κs = search needs
 
-urgency-of-requires : tie.Need-urgency-of-requires Inv-loop μ-loop
-urgency-of-requires c κs = room (turn (started c))
-
-against-requires : tie.Need-against-requires Inv-loop μ-loop
-against-requires c κs = room (turn (started (c .before)))
+against-if-requires : tie.Need-against-if-requires Inv-loop μ-loop
+against-if-requires c κs = room (turn (started c))
 
 add-i : tie.Need-add-i Inv-loop μ-loop
-add-i c = omega (arith, room (turn (started (c .before .before))))
+add-i c = omega (arith, room (turn (started (c .before))))
 
 loop-less : tie.Need-loop-less Inv-loop μ-loop
 loop-less c =
-    let i = turn (started (c .before .before)) in
+    let i = turn (started (c .before)) in
     omega (arith, i .loop-test .taken)
 
 loop-again : tie.Need-loop-again Inv-loop μ-loop
 loop-again c =
-    let t = c .before .before in
+    let t = c .before in
     let i = turn (started t) in
     let k = state (passed i) in
     looked-next day k (moment i) (i .before .loop .inv) (i .loop-test .taken)
-    (fits t) (stirring t) (running t) (c .before .urgency-of .ensures) (c .against .ensures)
+    (fits t) (stirring t) (running t) (c .against-if .ensures)
 
 who-requires : tie.Need-who-requires Inv-loop μ-loop
 who-requires c κs = search needs
@@ -398,8 +395,7 @@ survey-spec =
     returns-5
     ends-at-requires
     can-run-requires
-    urgency-of-requires
-    against-requires
+    against-if-requires
     add-i
     loop-less
     loop-again

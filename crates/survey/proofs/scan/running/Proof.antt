@@ -41,17 +41,14 @@ element-copy-out-can-run c = search needs
 can-run-requires : tie.Need-can-run-requires Inv-loop μ-loop
 can-run-requires c κs = search needs
 
-mul-urgency-of : tie.Need-mul-urgency-of Inv-loop μ-loop
-mul-urgency-of c = search needs
+mul-against-if : tie.Need-mul-against-if Inv-loop μ-loop
+mul-against-if c = search needs
 
-element-copy-out-urgency-of : tie.Need-element-copy-out-urgency-of Inv-loop μ-loop
-element-copy-out-urgency-of c = search needs
+element-copy-out-against-if : tie.Need-element-copy-out-against-if Inv-loop μ-loop
+element-copy-out-against-if c = search needs
 
-urgency-of-requires : tie.Need-urgency-of-requires Inv-loop μ-loop
-urgency-of-requires c κs = search needs
-
-against-requires : tie.Need-against-requires Inv-loop μ-loop
-against-requires c κs = search needs
+against-if-requires : tie.Need-against-if-requires Inv-loop μ-loop
+against-if-requires c κs = search needs
 
 add-i : tie.Need-add-i Inv-loop μ-loop
 add-i c = search needs
@@ -61,10 +58,10 @@ loop-less c = search needs
 
 loop-again : tie.Need-loop-again Inv-loop μ-loop
 loop-again c =
-    let l = c .before .before .before .before .before in
+    let l = c .before .before .before .before in
     let s = l .before .before .before .before in
     let k = s .args .t1 in
-    (search needs, led-more (canRun (k .tasks)) (k .tasks) (l .loop .i) (c .before .before .can-run .ensures) (c .before .urgency-of .ensures) (l .loop .inv .1) (c .against .ensures))
+    (search needs, led-more (canRun (k .tasks)) (k .tasks) (l .loop .i) (c .before .can-run .ensures) (l .loop .inv .1) (c .against-if .ensures))
 
 who-requires : tie.Need-who-requires Inv-loop μ-loop
 who-requires c κs = search needs
@@ -91,10 +88,9 @@ running-spec =
     mul-can-run
     element-copy-out-can-run
     can-run-requires
-    mul-urgency-of
-    element-copy-out-urgency-of
-    urgency-of-requires
-    against-requires
+    mul-against-if
+    element-copy-out-against-if
+    against-if-requires
     add-i
     loop-less
     loop-again
