@@ -16,11 +16,12 @@ use task::Hold;
 const MOST_TASKS: usize = machine::MOST_TASKS as usize;
 
 // More than the urgency of any task: 32 * 255 + 31 is the largest.
-pub const NOBODY: u32 = 8192;
+pub const NOBODY: usize = 8192;
 
-// The task that leads a scan, and how urgent it is.
+// The task that leads a scan, and how urgent it is. In two words: in one, the machine would put them together and
+// take them apart at every task.
 pub struct Lead {
-    pub urgency: u32,
+    pub urgency: usize,
     pub task: u8,
 }
 
@@ -36,7 +37,7 @@ pub fn no_lead() -> Lead
 
 impl Lead {
     // Task i is held against the lead: the more urgent one leads.
-    pub fn against(self, urgency: u32, i: usize) -> Lead
+    pub fn against(self, urgency: usize, i: usize) -> Lead
         requires { ⌜ i < mostTasks ⌝ }
         ensures { λ r. ⌜ r ≡ against self true urgency i ⌝ }
     {
@@ -78,11 +79,11 @@ pub fn places(n: u8) -> usize
 }
 
 // Current priority first, then task number; smaller is more urgent.
-pub fn urgency_of(current: u8, i: usize) -> u32
+pub fn urgency_of(current: u8, i: usize) -> usize
     requires { ⌜ i < mostTasks ⌝ }
     ensures { λ r. ⌜ (r ≡ mostTasks * current + i) × (r < nobody) ⌝ }
 {
-    32 * (current as u32) + i as u32
+    32 * (current as usize) + i
 }
 
 // Whether a task with this life, wait and hold is runnable.
