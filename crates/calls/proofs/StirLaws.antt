@@ -1,19 +1,21 @@
--- A tick that stirs nobody, and the bytes of a tick.
+-- A tick before the next event, and the bytes of a tick.
 use mathlib.Core.Path.{_≡_, refl, sym, _∙_}
 use mathlib.Core.Bool.{Bool, true, false, not, _&&_}
 use mathlib.Core.List.{List, [], _∷_}
-use Prim.Native.Nat.{ℕ, zero, suc, _+_, _<_}
+use Prim.Native.Nat.{ℕ, zero, suc, _+_, _≤_, _<_}
 use native.Mathlib.Omega.{arith}
 use lib.Dec.{eqb}
 use lib.ListN.{length, getD, drop, replicate}
-use borrow.Author.Tests.{ne-eqb, eqb-true, not-true, not-false}
-use Rattle.calendar.specs.Limits.{lastInstant}
+use borrow.Author.Tests.{ne-eqb, eqb-true, leb-true, not-true, not-false}
+use Rattle.calendar.specs.Limits.{tick, lastInstant}
 use Rattle.calendar.specs.Times.{duration, plus}
+use Rattle.calendar.specs.Moments.{before, upTo}
 use Rattle.calendar.specs.declared.Instant.{Instant}
+use Rattle.calendar.proofs.Moments.{up-to-before}
 use Rattle.layout.specs.Fields.{bytesOf}
 use Rattle.lock.proofs.Bools.{byBool, contra, both}
 use Rattle.record.specs.Lists.{allZero}
-use Rattle.machine.specs.Quiet.{Quiet}
+use Rattle.machine.specs.NextEvent.{nextEvent}
 use Rattle.machine.specs.Scripts.{oneTick}
 use Rattle.machine.specs.State.{mostTasks, begunAt}
 use Rattle.machine.specs.Running.{runner}
@@ -21,26 +23,21 @@ use Rattle.machine.specs.Step.{refuse, step}
 use Rattle.machine.specs.Test.{valid}
 use Rattle.machine.specs.declared.Running.{Running}
 use Rattle.machine.specs.declared.State.{State}
-use Rattle.machine.proofs.Below.{all-at}
+use Rattle.machine.proofs.NextEvent.{next-is-next}
+use Rattle.machine.proofs.Passed.{parts}
 use Rattle.machine.proofs.Quiet.{quiet-step}
 use Rattle.survey.specs.declared.Survey.{Survey}
-use Rattle.survey.specs.Looks.{stirsNext, surveyed}
+use Rattle.survey.specs.Looks.{surveyed}
 use Rattle.calls.specs.Stirring.{isTick}
 
--- Nothing stirs at the next tick.
-pub quiet-next : (k : State) → stirsNext k ≡ false → Quiet 1 k
-unfolding stirsNext
-quiet-next k e i l x a b =
-    let q : x ≡ k .now .0 + 1 = omega arith in
-    rw q (not-true _ (all-at (k .counts .tasks) _ (not-false _ e) i l))
-
--- A tick that stirs nobody: n and r are what was said of the next instant and the runner.
+-- A tick before the next event: n and r are what was said of the next instant and the runner.
 pub quiet-tick :
-    (day : ℕ) (k : State) → length (k .tasks) ≡ mostTasks → valid day k ≡ true → stirsNext k ≡ false → k .now .0 < lastInstant
+    (day : ℕ) (k : State) → length (k .tasks) ≡ mostTasks → valid day k ≡ true
+    → before (plus (k .now) (duration tick)) (nextEvent k) ≡ true → k .now .0 < lastInstant
     → {r : Running} {n : Instant} → r ≡ runner k → n ≡ plus (k .now) (duration 1)
     → refuse (begunAt n k) 0 r ≡ step day k oneTick
 unfolding refuse
-quiet-tick day k room v q l e m = rw (e, m) (sym (quiet-step day k room v (quiet-next k q) l))
+quiet-tick day k room v q l e m = rw (e, m) (sym (quiet-step day k room v (next-is-next k .quiet 1 q) l))
 
 -- ---- what a survey v said
 
@@ -62,9 +59,19 @@ module _ (day : ℕ) (k : State) {v : Survey} (e : v ≡ surveyed day k) where
     unfolding surveyed
     said-runner = rw (e, t)
 
-    pub said-quiet : (b : Bool) → (not (v .stirs) && b) ≡ true → stirsNext k ≡ false
+    pub said-next : v .next ≡ nextEvent k
     unfolding surveyed
-    said-quiet b q = sym (rw (e, t)) ∙ not-true (v .stirs) (both (not (v .stirs)) b q .0)
+    said-next = rw (e, t)
+
+    pub in-time : k .now .0 ≤ lastInstant
+    in-time = leb-true _ _ (parts day k t .now)
+
+    -- q is what was made of the next event.
+    pub said-quiet : {q : ℕ} → q ≡ upTo (lastInstant + 1) (v .next) → k .now .0 + 1 < q
+        → (before (plus (k .now) (duration tick)) (nextEvent k) ≡ true) × (k .now .0 < lastInstant)
+    said-quiet f l =
+        let p = up-to-before (lastInstant + 1) (nextEvent k) (k .now .0 + 1) (rw (f, said-next) at l) in
+        (p .1, omega arith)
 
 -- ---- the bytes of a tick
 

@@ -1,12 +1,12 @@
 -- Who runs after a tick: no turn makes a task less urgent, so the lead only has to be held against the turns.
 use mathlib.Core.Path.{_≡_, refl, sym, _∙_, ap}
 use mathlib.Core.Logic.{_≢_}
-use mathlib.Core.Bool.{Bool, true, false, not, _&&_, _||_, and-false}
+use mathlib.Core.Bool.{Bool, true, false, not, _&&_}
 use mathlib.Core.List.{List}
 use Prim.Native.Nat.{ℕ, _+_, _*_, _≤_, _<_}
 use native.Mathlib.Nat.{le-antisymm}
 use native.Mathlib.Omega.{arith}
-use lib.Dec.{ltb, eqb}
+use lib.Dec.{ltb}
 use lib.ListN.{length, set, length-set}
 use lib.Seq.{getD-set-same, getD-set-other}
 use borrow.Author.Tests.{lt-ltb, ltb-true, ltb-false}
@@ -16,7 +16,6 @@ use Rattle.lock.proofs.Bools.{byBool, byEq, contra, both}
 use Rattle.task.specs.State.{noTask, runnable, unheld, withSchedule}
 use Rattle.task.specs.Alarms.{falls}
 use Rattle.task.specs.Schedules.{advance}
-use Rattle.task.specs.Coming.{comes}
 use Rattle.task.specs.Turns.{dueIf, delayEnds, wake, fallTurn, tickTurn}
 use Rattle.task.specs.declared.Hold.{Hold}
 use Rattle.task.specs.declared.Hold.the-variants.{Unheld, Suspended, Delayed}
@@ -24,7 +23,6 @@ use Rattle.task.specs.declared.Kept.{Kept}
 use Rattle.task.specs.declared.Kept.the-variants.{Empty, Back}
 use Rattle.task.specs.declared.Task.{Task}
 use Rattle.task.specs.declared.Turn.{Turn}
-use Rattle.task.proofs.Laws.{comes-parts}
 use Rattle.machine.specs.State.{mostTasks, taskAt}
 use Rattle.machine.specs.Running.{urgency, mostUrgent, runningOf}
 use Rattle.machine.specs.declared.Running.{Running}
@@ -33,7 +31,6 @@ use Rattle.machine.proofs.Below.{Found, scan-finds, mostUrgent-at}
 use Rattle.survey.specs.Leads.{nobody, noLead, leadOf, against, Weighed, Leads}
 use Rattle.survey.specs.declared.scan.Lead.{Lead}
 use Rattle.survey.proofs.LeadLaws.{canRun, leads-nobody, leads-one}
-use Rattle.calls.specs.Stirring.{mayStir}
 
 -- ---- one number that changes
 
@@ -153,20 +150,3 @@ leading-still h a b = rw (a, b) h
 pub runs-below : (ts : List Task) (c j : ℕ) → runningOf c ts ≡ Runs j → j < c
 unfolding runningOf
 runs-below ts c j e = mostUrgent-at c _ _ j e .0
-
--- ---- what a tick may stir
-
--- What it may not stir, it doesn't.
-pub unstirred : (n : Instant) (t : Task) → mayStir n (t .hold) (t .schedule .alarm .next) ≡ false → comes n t ≡ false
-unstirred n t e = comes-parts n t ∙ go (t .hold) e
-  where
-    go : (h : Hold) → mayStir n h (t .schedule .alarm .next) ≡ false → (falls n (t .schedule .alarm) || delayEnds n h) ≡ false
-    go Unheld e = rw (e, and-false)
-    go Suspended e = rw (e, and-false)
-    go (Delayed m) e = contra refl e
-
-pub may-unheld : (n x : Instant) (h : Hold) → h ≡ Unheld → eqb (x .0) (n .0) ≡ mayStir n h x
-may-unheld n x h e = rw e
-
-pub may-suspended : (n x : Instant) (h : Hold) → h ≡ Suspended → eqb (x .0) (n .0) ≡ mayStir n h x
-may-suspended n x h e = rw e

@@ -13,7 +13,6 @@ ghost use Rattle.machine.specs.Calls.{tick, trigger, enable, interruptBy};
 ghost use Rattle.machine.specs.Step.{finish, orRefuse};
 ghost use Rattle.survey.specs.Looks.{putIf, waitsOk};
 ghost use Rattle.serving.specs.Ends.{marksOf};
-ghost use Rattle.calls.specs.Stirring.{mayStir};
 ghost use Rattle.layout.specs.declared.Mark.the-variants.{TI};
 ghost use Rattle.layout.specs.declared.Call.{Call};
 use crate::declarations::answered;
@@ -33,7 +32,6 @@ use serving::ends::finished;
 use serving::ends::no_marks;
 use survey::scan::no_lead;
 use survey::sets::put_if;
-use task::Hold;
 use task::Turn;
 
 // A kernel at work, and the sets so far.
@@ -53,17 +51,6 @@ fn marked(m: Marks, i: usize, u: Turn) -> Marks
         ended: put_if(i, u.ended, m.ended),
         lost: put_if(i, u.lost, m.lost),
         granted: m.granted,
-    }
-}
-
-// Whether a tick to n may stir a task, held so, with this next due.
-fn may_stir(hold: Hold, next: Instant, n: Instant) -> bool
-    ensures { λ r. ⌜ r ≡ mayStir n hold next ⌝ }
-{
-    match hold {
-        Hold::Unheld => next.0 == n.0,
-        Hold::Suspended => next.0 == n.0,
-        Hold::Delayed(_) => true,
     }
 }
 
@@ -90,7 +77,7 @@ pub(crate) fn trigger_all(mut k: State, interrupt: u8) -> Working
     Working { state: k, marks: m }
 }
 
-// Each declared task's turn at a tick: those that it may stir, since the others stay as they are. No turn makes a
+// Each declared task's turn at a tick: those that something comes to, since the others stay as they are. No turn makes a
 // task less urgent, so the task that ran or one that had its turn runs. No turn begins a wait, so nobody is served.
 pub(crate) fn ticked(mut k: State, r: Running) -> Stepped
     requires { ⌜ valid day k ≡ true ⌝ }
@@ -115,7 +102,7 @@ pub(crate) fn ticked(mut k: State, r: Running) -> Stepped
         let hold = t.hold;
         let schedule = t.schedule;
         let alarm = schedule.alarm;
-        if may_stir(hold, alarm.next, n) {
+        if alarm.falls_on(n) | hold.ends_at(n) {
             let whole = k.tasks[i];
             let u = whole.tick(n);
             let after = u.task;

@@ -1,13 +1,15 @@
-// Ticks that stir nobody.
+// Ticks to which nothing comes.
 ghost use mathlib.Core.Path.{_≡_};
-ghost use mathlib.Core.Bool.{true, false};
+ghost use mathlib.Core.Bool.{true};
 ghost use Prim.Native.Nat.{_<_};
-ghost use Rattle.calendar.specs.Limits.{day, lastInstant};
+ghost use Rattle.calendar.specs.Limits.{day, tick, lastInstant};
+ghost use Rattle.calendar.specs.Times.{duration, plus};
+ghost use Rattle.calendar.specs.Moments.{before};
+ghost use Rattle.machine.specs.NextEvent.{nextEvent};
 ghost use Rattle.machine.specs.Running.{runner};
 ghost use Rattle.machine.specs.Scripts.{oneTick};
 ghost use Rattle.machine.specs.Step.{step};
 ghost use Rattle.machine.specs.Test.{valid};
-ghost use Rattle.survey.specs.Looks.{stirsNext};
 ghost use Rattle.calls.specs.Stirring.{isTick};
 use crate::declarations::answered;
 use calendar::Duration;
@@ -34,11 +36,11 @@ pub fn is_tick(s: &[u8]) -> bool
     zeros(&s[2..])
 }
 
-// A tick that stirs nobody only moves the instant.
+// A tick before the next event only moves the instant.
 pub fn quiet_tick(k: State, r: Running) -> Stepped
     requires { ⌜ valid day k ≡ true ⌝ }
     requires { ⌜ r ≡ runner k ⌝ }
-    requires { ⌜ stirsNext k ≡ false ⌝ }
+    requires { ⌜ before (plus (k .now) (duration tick)) (nextEvent k) ≡ true ⌝ }
     requires { ⌜ k .now .0 < lastInstant ⌝ }
     ensures { λ z. ⌜ z ≡ step day k oneTick ⌝ }
 {

@@ -85,7 +85,7 @@ pub fn step_on(k: State, s: &[u8], r: Running) -> Stepped
     }
 }
 
-// The machine's step. A tick that stirs nobody takes the short way.
+// The machine's step. A tick before the next event takes the short way.
 pub fn step(k: State, s: &[u8]) -> Stepped
     ensures { λ z. ⌜ z ≡ step day k (now (s .entry)) ⌝ }
 {
@@ -95,7 +95,8 @@ pub fn step(k: State, s: &[u8]) -> Stepped
     if !v.ok {
         return answered(k, 1, Running::Idle);
     }
-    if !v.stirs & (now.0 < LAST_INSTANT) {
+    let next = v.next;
+    if now.0 + 1 < next.up_to(LAST_INSTANT + 1) {
         if is_tick(s) {
             return quiet_tick(k, r);
         }

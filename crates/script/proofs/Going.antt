@@ -78,7 +78,7 @@ pub record Going (script before : List ℕ) (start : State) (ok : Bool) (buffer 
   pub tables : Tables k
   pub tested : ok ≡ valid day k
   pub runs : ok ≡ true → r ≡ runner k
-  pub still : Still quiet k
+  pub still : ok ≡ true → Still quiet k
   pub rest : carried day start (records script) (length before) ≡ afterText text (carried day k (records (drop at script)) (length before - fill))
 
 -- The loop's test: there is a next record, and room for a longest line.
@@ -136,7 +136,7 @@ module _ {script before : List ℕ} {start : State} {ok : Bool} {buffer : List �
     -- One record more, with the machine's step z on it and z's line.
     turned : {r′ : Running} {quiet′ : ℕ} (z : Stepped) → z ≡ step day k (part script at to)
         → Wrote buffer fill (shown (says z) (z .answer)) buffer′ fill′ → fill′ ≤ fill + longestLine → length buffer′ ≡ length buffer
-        → Tables (z .state) → ok ≡ valid day (z .state) → (ok ≡ true → r′ ≡ runner (z .state)) → Still quiet′ (z .state)
+        → Tables (z .state) → ok ≡ valid day (z .state) → (ok ≡ true → r′ ≡ runner (z .state)) → (ok ≡ true → Still quiet′ (z .state))
         → Going script before start ok buffer′ (z .state) r′ quiet′ to fill′
     turned z m w n b s v u q =
         let t : List ℕ = shown (says z) (z .answer) in
@@ -181,7 +181,7 @@ module _ {script before : List ℕ} {start : State} {ok : Bool} {buffer : List �
           turned z m w n b
           (record { tasks = g .tables .tasks; semaphores = g .tables .semaphores; bolts = g .tables .bolts; enabled = g .tables .enabled })
           (o ∙ sym v) (g .runs)
-          (λ d l. let p = s (suc d) (omega arith) in (omega arith, λ c m x a b. p .1 c m x (omega arith) (omega arith)))
+          (λ _ d l. let p = s (suc d) (omega arith) in (omega arith, λ c m x a b. p .1 c m x (omega arith) (omega arith)))
 
       -- Any other record.
       pub stepped : (z : Stepped) → z ≡ step day k (part script at to)
@@ -190,13 +190,13 @@ module _ {script before : List ℕ} {start : State} {ok : Bool} {buffer : List �
       stepped z m w n b =
           let p = step-passes day isDay k (record { tables = g .tables; tested = good o }) (part script at to) (octets-part script at to (g .octets)) in
           turned z m w n b (rw m (p .tables)) (o ∙ sym (rw m (p .tested))) (λ _. rw m (answers-runner day k (part script at to) (good o)))
-          (λ d l. absurd (omega arith))
+          (λ _ d l. absurd (omega arith))
 
 -- Where the loop begins.
-pub started : (script before : List ℕ) (k : State) (ok : Bool) (r : Running) → Octets script → Tables k → ok ≡ valid day k → (valid day k ≡ true → r ≡ runner k)
-    → Going script before k ok before k r 0 0 0
+pub started : (script before : List ℕ) (k : State) (ok : Bool) (r : Running) (q : ℕ) → Octets script → Tables k → ok ≡ valid day k → (valid day k ≡ true → r ≡ runner k)
+    → (valid day k ≡ true → Still q k) → Going script before k ok before k r q 0 0
 unfolding placed
-started script before k ok r o t v u =
+started script before k ok r q o t v u s =
     let d : length before - 0 ≡ length before = omega arith in
     record {
       text = [];
@@ -208,6 +208,6 @@ started script before k ok r o t v u =
       tables = t;
       tested = v;
       runs = λ e. u (sym v ∙ e);
-      still = λ d l. absurd (omega arith);
+      still = λ e. s (sym v ∙ e);
       rest = rw d;
     }

@@ -58,14 +58,15 @@ fn line_if(show: bool, a: Answer, out: &mut [u8], at: usize) -> usize
 }
 
 // The script s, with as many lines as there is room for in out. A tick to an instant before quiet only moves the
-// present; quiet is the next event, found at the first tick after another record, or 0 while it isn't known.
+// present; quiet is the next event, found again at the first tick after another record, or 0 while it isn't known.
 pub fn run(kernel: Kernel, s: &[u8], out: &mut [u8]) -> Ran
     ensures { λ r. ⌜ Runs day (kernel .state) (now (s .entry)) (now (out .entry)) (now (out .exit)) r ⌝ }
 {
     let mut k = kernel.state;
     let v = survey(k);
     let mut r = v.runner;
-    let mut quiet: u64 = 0;
+    let next = v.next;
+    let mut quiet = next.up_to(LAST_INSTANT + 1);
     let mut at = 0;
     let mut fill = 0;
     while (at < s.len()) & (LONGEST_LINE <= out.len() - fill) {

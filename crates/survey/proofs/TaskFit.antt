@@ -3,15 +3,15 @@ use mathlib.Core.Path.{_≡_, refl}
 use mathlib.Core.Bool.{Bool, true, false, not, _&&_, _||_, and-true, and-false, and-assoc, or-true, or-false}
 use mathlib.Core.List.{List}
 use Prim.Native.Nat.{ℕ}
-use Rattle.calendar.specs.declared.Instant.{Instant}
+use Rattle.calendar.specs.declared.Moment.the-variants.{Never}
 use Rattle.lock.specs.Locks.{waiting}
 use Rattle.lock.specs.declared.Locks.{Locks}
 use Rattle.lock.specs.declared.Wait.{Wait}
 use Rattle.lock.specs.declared.Wait.the-variants.{Nothing, Request, Reserve, Enter}
 use Rattle.lock.proofs.Bools.{contra, neither}
 use Rattle.task.specs.State.{unheld, isKept, runnable, wanted}
-use Rattle.task.specs.Alarms.{pending, planned, falls}
-use Rattle.task.specs.Turns.{delayEnds}
+use Rattle.task.specs.Alarms.{pending, planned}
+use Rattle.task.specs.Coming.{delayEnd, nextStart}
 use Rattle.task.specs.declared.Alarm.{Alarm}
 use Rattle.task.specs.declared.Hold.{Hold}
 use Rattle.task.specs.declared.Hold.the-variants.{Unheld, Suspended, Delayed}
@@ -34,8 +34,8 @@ pub plan-none : (day ni : ℕ) (s : Schedule) → planned (s .alarm .plan) ≡ f
 unfolding scheduleOk
 plan-none day ni s e = rw e
 
-pub falls-none : (x : Instant) (a : Alarm) → planned (a .plan) ≡ false → falls x a ≡ false
-falls-none x a e = rw (neither (pending (a .plan)) _ e .0)
+pub no-start : (a : Alarm) → planned (a .plan) ≡ false → nextStart a ≡ Never
+no-start a e = rw (neither (pending (a .plan)) _ e .0)
 
 -- ---- a start kept back: there is none, or its task lives and it has a priority
 
@@ -57,7 +57,7 @@ pub record Eased (w : Wait) (h : Hold) : Type 0 where
   pub waits : waiting w ≡ false
   pub hold : holdOk h ≡ true
   pub free : unheld h ≡ true
-  pub ends : (x : Instant) → delayEnds x h ≡ false
+  pub ends : delayEnd h ≡ Never
 
 pub eased : (w : Wait) (h : Hold) → atEase w h ≡ true → Eased w h
 eased Request h e = contra e refl
@@ -65,7 +65,7 @@ eased Reserve h e = contra e refl
 eased Enter h e = contra e refl
 eased Nothing Suspended e = contra e refl
 eased Nothing (Delayed n) e = contra e refl
-eased Nothing Unheld e = record { waits = refl; hold = refl; free = refl; ends = λ x. refl }
+eased Nothing Unheld e = record { waits = refl; hold = refl; free = refl; ends = refl }
 
 -- It can run if it lives.
 pub eased-runs : (t : Task) → atEase (t .wait) (t .hold) ≡ true → t .alive ≡ runnable t

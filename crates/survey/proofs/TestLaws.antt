@@ -147,9 +147,6 @@ module _ (day : ℕ) (k : State) {o c : Bool} (clock : o ≡ isTimeOfDay day (k 
     in-range : (leb (k .now .0) lastInstant && o && c) ≡ true
     in-range = not-false (leb (k .now .0) lastInstant && o && c) e
 
-    pub timely : k .now .0 ≤ lastInstant
-    timely = leb-true _ _ (both (leb (k .now .0) lastInstant) o (both (leb (k .now .0) lastInstant && o) c in-range .0) .0)
-
     pub counted : countsOk (k .counts) ≡ true
     counted = sym counts ∙ both (leb (k .now .0) lastInstant && o) c in-range .1
 

@@ -2,18 +2,17 @@
 use mathlib.Core.Bool.{Bool, true, false, not, cond, _&&_}
 use mathlib.Core.List.{List}
 use Prim.Native.Nat.{ℕ}
-use Rattle.calendar.specs.Limits.{tick}
-use Rattle.calendar.specs.Times.{duration, plus}
+use Rattle.calendar.specs.declared.Moment.the-variants.{Never}
 use Rattle.lock.specs.Locks.{waiting}
 use Rattle.lock.specs.declared.Locks.{Locks}
 use Rattle.lock.specs.declared.Wait.{Wait}
 use Rattle.task.specs.State.{unheld, wanted}
-use Rattle.task.specs.Coming.{comes}
 use Rattle.task.specs.declared.Hold.{Hold}
 use Rattle.task.specs.declared.Task.{Task}
 use Rattle.machine.specs.Sets.{put}
 use Rattle.machine.specs.State.{taskAt}
 use Rattle.machine.specs.Granting.{couldBeGranted}
+use Rattle.machine.specs.NextEvent.{nextEvent}
 use Rattle.machine.specs.Running.{runner}
 use Rattle.machine.specs.Test.{allBelow, countsOk, holdOk, waitOk, valid}
 use Rattle.machine.specs.declared.Counts.{Counts}
@@ -47,18 +46,13 @@ busyOk n ts r t = t .alive && holdOk (t .hold) && waitSettled n ts r t
 
 -- ---- all of it
 
--- At the next tick some declared task's schedule falls due or its delay ends.
-unfoldable pub stirsNext : State → Bool
-stirsNext k =
-    not (allBelow (k .counts .tasks) (λ i. not (comes (plus (k .now) (duration tick)) (taskAt (k .tasks) i))))
-
 -- The survey of a kernel that fails the test, which is not looked at further.
 abbrev pub unfit : Survey
-unfit = record { ok = false; stirs = false; runner = Idle }
+unfit = record { ok = false; next = Never; runner = Idle }
 
 -- What one look at a kernel tells.
 unfoldable pub surveyed : ℕ → State → Survey
 surveyed day k =
     cond (valid day k)
-    (record { ok = true; stirs = stirsNext k; runner = runner k })
+    (record { ok = true; next = nextEvent k; runner = runner k })
     unfit

@@ -1,4 +1,4 @@
-// One look at a kernel: the kernel test, the running task, and what the next tick would stir.
+// One look at a kernel: the kernel test, the next event, and the running task.
 pub mod check;
 pub mod granting;
 pub mod look;
@@ -6,11 +6,12 @@ pub mod next;
 pub mod scan;
 pub mod sets;
 
+use calendar::Moment;
 use machine::Running;
 
-// Whether the kernel passes the test; if so, whether the next tick stirs a task, and the running task.
+// Whether the kernel passes the test; if so, its next event and its running task.
 pub struct Survey {
     pub ok: bool,
-    pub stirs: bool,
+    pub next: Moment,
     pub runner: Running,
 }

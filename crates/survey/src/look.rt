@@ -11,10 +11,13 @@ use crate::check::is_busy_ok;
 use crate::check::is_kept_right;
 use crate::check::is_planned;
 use crate::check::is_schedule_ok;
+use crate::next::moment_of;
+use crate::next::sooner_end;
+use crate::next::sooner_start;
 use crate::scan::can_run;
 use crate::scan::no_lead;
-use calendar::Duration;
 use calendar::LAST_INSTANT;
+use calendar::Moment;
 use calendar::is_time_of_day;
 use machine::Running;
 use machine::State;
@@ -25,7 +28,7 @@ fn unfit() -> Survey
 {
     Survey {
         ok: false,
-        stirs: false,
+        next: Moment::Never,
         runner: Running::Idle,
     }
 }
@@ -40,9 +43,8 @@ pub fn survey(k: State) -> Survey
         return unfit();
     }
     let n = counts.tasks as usize;
-    let at = now.plus(Duration(1));
     let locks = k.locks;
-    let mut stirs = false;
+    let mut soonest = 0;
     let mut lead = no_lead();
     for i in 0..n {
         let current = k.tasks[i].current;
@@ -60,7 +62,7 @@ pub fn survey(k: State) -> Survey
                 return unfit();
             }
             let alarm = s.alarm;
-            stirs = stirs | alarm.falls_on(at);
+            soonest = sooner_start(soonest, now, alarm);
         }
         let t = k.tasks[i];
         let kept = t.kept;
@@ -81,14 +83,14 @@ pub fn survey(k: State) -> Survey
                 return unfit();
             }
             let hold = t.hold;
-            stirs = stirs | hold.ends_at(at);
+            soonest = sooner_end(soonest, now, hold);
             runs = can_run(runs, wait, hold);
         }
         lead = lead.against_if(runs, current, i);
     }
     Survey {
         ok: true,
-        stirs,
+        next: moment_of(soonest),
         runner: lead.who(),
     }
 }

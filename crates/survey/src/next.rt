@@ -1,6 +1,5 @@
 // The next event. In a scan it goes as a number, 0 for none: what is later than now is not 0.
 ghost use mathlib.Core.Path.{_≡_};
-ghost use mathlib.Core.Bool.{cond};
 ghost use Prim.Native.Nat.{_≤_};
 ghost use Rattle.calendar.specs.Moments.{sooner};
 ghost use Rattle.calendar.specs.declared.Moment.{Moment};
@@ -14,13 +13,10 @@ use machine::State;
 use task::Alarm;
 use task::Hold;
 
-// The earlier of s and n, where n pends and is later than now.
-fn sooner(s: u64, now: Instant, pends: bool, n: Instant) -> u64
-    ensures { λ r. ⌜ momentOf r ≡ sooner now (cond pends (Moment.At n) Moment.Never) (momentOf s) ⌝ }
+// The earlier of s and n, where n is later than now.
+fn sooner(s: u64, now: Instant, n: Instant) -> u64
+    ensures { λ r. ⌜ momentOf r ≡ sooner now (Moment.At n) (momentOf s) ⌝ }
 {
-    if !pends {
-        return s;
-    }
     if n.0 <= now.0 {
         return s;
     }
@@ -30,17 +26,25 @@ fn sooner(s: u64, now: Instant, pends: bool, n: Instant) -> u64
     if n.0 < s { n.0 } else { s }
 }
 
-// The earlier of s and what comes after now to a task with this hold and alarm.
-pub fn next_of(s: u64, now: Instant, hold: Hold, alarm: Alarm) -> u64
-    ensures { λ r. ⌜ momentOf r ≡ sooner now (delayEnd hold) (sooner now (nextStart alarm) (momentOf s)) ⌝ }
+// The earlier of s and the next due of an alarm, if it is to come.
+pub fn sooner_start(s: u64, now: Instant, alarm: Alarm) -> u64
+    ensures { λ r. ⌜ momentOf r ≡ sooner now (nextStart alarm) (momentOf s) ⌝ }
 {
     let plan = alarm.plan;
-    let next = alarm.next;
-    let m = sooner(s, now, plan.is_pending(), next);
+    if plan.is_pending() {
+        return sooner(s, now, alarm.next);
+    }
+    s
+}
+
+// The earlier of s and the end of a delay, if it is to come.
+pub fn sooner_end(s: u64, now: Instant, hold: Hold) -> u64
+    ensures { λ r. ⌜ momentOf r ≡ sooner now (delayEnd hold) (momentOf s) ⌝ }
+{
     match hold {
-        Hold::Unheld => m,
-        Hold::Suspended => m,
-        Hold::Delayed(n) => sooner(m, now, true, n),
+        Hold::Unheld => s,
+        Hold::Suspended => s,
+        Hold::Delayed(n) => sooner(s, now, n),
     }
 }
 
@@ -67,7 +71,7 @@ pub fn next_event(k: State) -> Moment
         let hold = t.hold;
         let schedule = t.schedule;
         let alarm = schedule.alarm;
-        soonest = next_of(soonest, now, hold, alarm);
+        soonest = sooner_end(sooner_start(soonest, now, alarm), now, hold);
     }
     moment_of(soonest)
 }

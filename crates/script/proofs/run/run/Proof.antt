@@ -12,7 +12,7 @@ use Rattle.lines.specs.Lines.{longestLine}
 use Rattle.lock.proofs.Bools.{both}
 use Rattle.calendar.specs.Limits.{day, lastInstant}
 use Rattle.calendar.specs.Moments.{upTo}
-use Rattle.calls.proofs.StirLaws.{said-ok, said-runner}
+use Rattle.calls.proofs.StirLaws.{said-ok, said-runner, said-next}
 use Rattle.survey.proofs.Owned.{tables-long}
 use Rattle.script.proofs.Going.{Still, still-next, Going, good, early, few, ahead, fits, started, stopped, refused, moved, stepped}
 use Rattle.script.proofs.run.run.Statement.{statement}
@@ -44,25 +44,34 @@ eOf c = c .before .before .before .before
 abbrev kOf : J → State
 kOf c = nOf (eOf c) .before .before .loop .k
 
-passes : (c : E) → nOf c .before .before .before .survey .result .ok ≡ true
+passes : (c : E) → nOf c .before .before .before .before .survey .result .ok ≡ true
 passes c = not-false _ (c .if1 .left)
 
 quietly : (c : J) → Still (c .if2 .quiet) (kOf c)
 quietly c =
     ⊎-elim (λ w. still-next (kOf c) (w .3 ∙ w .2 .ensures ∙ ap (upTo (lastInstant + 1)) (w .1 .ensures)))
-    (λ w. subst (λ (q : ℕ). Still q (kOf c)) (sym (w .1)) (nOf (eOf c) .before .before .loop .inv .still)) (c .if2 .came)
+    (λ w. subst (λ (q : ℕ). Still q (kOf c)) (sym (w .1)) (nOf (eOf c) .before .before .loop .inv .still (passes (eOf c)))) (c .if2 .came)
 
 survey-requires : tie.Need-survey-requires Inv-loop μ-loop
 survey-requires c κs = search needs
 
+add-up-to : tie.Need-add-up-to Inv-loop μ-loop
+add-up-to c = search needs
+
+up-to-requires : tie.Need-up-to-requires Inv-loop μ-loop
+up-to-requires c κs = search needs
+
 loop-holds : tie.Need-loop-holds Inv-loop μ-loop
 loop-holds c =
-    let s = c .before .before .before .before in
+    let v = c .before in
+    let s = v .before .before .before .before in
     let a = s .args in
+    let k = a .kernel .state in
     let o = s .good .0 .1 .1 .0 in
-    started (a .s .now) (a .out .now) (a .kernel .state) (c .survey .result .ok) (c .survey .result .runner)
-    (λ i. c .before .before .before .shared-slice-known .given i .fits) (tables-long (a .kernel .state) (o .0, o .1 .1))
-    (said-ok day (a .kernel .state) (c .survey .ensures)) (said-runner day (a .kernel .state) (c .survey .ensures))
+    started (a .s .now) (a .out .now) k (v .survey .result .ok) (v .survey .result .runner) (c .up-to .result)
+    (λ i. v .before .before .before .shared-slice-known .given i .fits) (tables-long k (o .0, o .1 .1))
+    (said-ok day k (v .survey .ensures)) (said-runner day k (v .survey .ensures))
+    (λ t. still-next k (c .up-to .ensures ∙ ap (upTo (lastInstant + 1)) (said-next day k (v .survey .ensures) t)))
 
 sub-loop : tie.Need-sub-loop Inv-loop μ-loop
 sub-loop c = omega (arith, c .loop .inv .room, c .loop .inv .long)
@@ -86,8 +95,8 @@ plain-requires c κs = search needs
 room : (c : N) → c .before .before .loop .fill + longestLine ≤ length (c .before .before .loop .out)
 room c = fits (c .before .before .loop .inv) (c .before .loop-test .taken)
 
-less : (c : N) → length (c .before .before .before .before .before .before .before .args .s .now) - c .end-of .result
-    < length (c .before .before .before .before .before .before .before .args .s .now) - c .before .before .loop .at
+less : (c : N) → length (c .before .before .before .before .before .before .before .before .args .s .now) - c .end-of .result
+    < length (c .before .before .before .before .before .before .before .before .args .s .now) - c .before .before .loop .at
 less c = omega (arith, ahead (c .before .before .loop .inv) (c .before .loop-test .taken))
 
 line-at-requires : tie.Need-line-at-requires Inv-loop μ-loop
@@ -113,11 +122,11 @@ add-if2 c = let e = c .before .before .before in omega (arith, early (nOf e .bef
 next-event-requires : tie.Need-next-event-requires Inv-loop μ-loop
 next-event-requires c κs = let e = c .before .before .before .before in few (nOf e .before .before .loop .inv) (passes e)
 
-add-up-to : tie.Need-add-up-to Inv-loop μ-loop
-add-up-to c = search needs
+add-up-to-2 : tie.Need-add-up-to-2 Inv-loop μ-loop
+add-up-to-2 c = search needs
 
-up-to-requires : tie.Need-up-to-requires Inv-loop μ-loop
-up-to-requires c κs = search needs
+up-to-requires-2 : tie.Need-up-to-requires-2 Inv-loop μ-loop
+up-to-requires-2 c κs = search needs
 
 add-if3 : tie.Need-add-if3 Inv-loop μ-loop
 add-if3 c = let e = eOf (c .before) in omega (arith, early (nOf e .before .before .loop .inv) (passes e))
@@ -184,6 +193,8 @@ run-spec =
     Inv-loop
     μ-loop
     survey-requires
+    add-up-to
+    up-to-requires
     loop-holds
     sub-loop
     end-of-requires
@@ -197,8 +208,8 @@ run-spec =
     is-tick-requires
     add-if2
     next-event-requires
-    add-up-to
-    up-to-requires
+    add-up-to-2
+    up-to-requires-2
     add-if3
     plus-requires
     begun-at-requires

@@ -1,33 +1,33 @@
--- Each task in its turn: one that isn't fit ends the look, and every other adds what comes of it and its urgency.
+-- Each task in its turn: one that isn't fit ends the look, and every other adds what comes to it and its urgency.
 use borrow.Author.Needs.{needs}
 use borrow.Author.Tests.{not-true, not-false}
 use mathlib.Core.Path.{_≡_, refl, sym, _∙_}
-use mathlib.Core.Bool.{true, false, _&&_, _||_}
+use mathlib.Core.Bool.{true, false, _&&_}
 use mathlib.Core.Logic.{⊎-elim}
 use Prim.Native.Nat.{_-_, _<_, _≤_}
 use native.Mathlib.Omega.{arith}
 use Rattle.calendar.specs.Limits.{day}
-use Rattle.calendar.specs.declared.Instant.{Instant}
-use Rattle.task.specs.Alarms.{falls}
-use Rattle.task.specs.Turns.{delayEnds}
+use Rattle.calendar.specs.Moments.{sooner}
+use Rattle.task.specs.Coming.{delayEnd, nextStart}
 use Rattle.task.specs.declared.Task.{Task}
 use Rattle.machine.specs.State.{mostTasks, taskAt}
 use Rattle.machine.specs.Test.{isPriority, scheduleOk, allBelow, countsOk, valid}
 use Rattle.machine.specs.declared.State.{State}
 use Rattle.survey.specs.Looks.{unfit, surveyed}
+use Rattle.survey.specs.Next.{momentOf}
 use Rattle.survey.proofs.Owned.{Owned}
 use Rattle.survey.proofs.LeadLaws.{canRun}
-use Rattle.survey.proofs.TaskFit.{plan-none, falls-none, Starts, start-none, start-kept, eased, eased-runs, odd-priority, odd-schedule, odd-kept, odd-busy, fit-eased, fit-busy}
-use Rattle.survey.proofs.TestLaws.{fitAt, upto-fails, upto-all, out-of-range, timely, counted, tasks-fit, all-fit}
-use Rattle.survey.proofs.Surveying.{Looked, stirs-more, stirs-same, looked-none, looked-next, looked-stirs, looked-runs, unfit-is, fit-is}
+use Rattle.survey.proofs.TaskFit.{plan-none, no-start, Starts, start-none, start-kept, eased, eased-runs, odd-priority, odd-schedule, odd-kept, odd-busy, fit-eased, fit-busy}
+use Rattle.survey.proofs.TestLaws.{fitAt, upto-fails, upto-all, out-of-range, counted, tasks-fit, all-fit}
+use Rattle.survey.proofs.Surveying.{Looked, sooner-more, sooner-same, looked-none, looked-next, looked-event, looked-runs, unfit-is, fit-is}
 use Rattle.survey.proofs.look.survey.Statement.{statement}
 use Rattle.survey.proofs.look.survey.Tie as tie
 
 abbrev Inv-loop : tie.InvT-loop
-Inv-loop k counts n x locks stirs₀ lead₀ i₀ stirs lead i = Looked day k x i stirs lead
+Inv-loop k counts now n locks soonest₀ lead₀ i₀ soonest lead i = Looked day k i soonest lead
 
 abbrev μ-loop : tie.MeasureT-loop
-μ-loop k counts n x locks stirs₀ lead₀ i₀ stirs lead i = n - i
+μ-loop k counts now n locks soonest₀ lead₀ i₀ soonest lead i = n - i
 
 -- ---- what is known on the way
 
@@ -53,17 +53,13 @@ abbrev I : Type 0
 I = tie.In-loop Inv-loop μ-loop
 
 abbrev passed : I → P
-passed c = c .before .before .before .before .before .before
+passed c = c .before .before .before .before .before
 
 abbrev one : I → Task
 one c = taskAt (state (passed c) .tasks) (c .before .loop .i)
 
 room : (c : I) → c .before .loop .i < mostTasks
 room c = omega (arith, few (passed c), c .loop-test .taken)
-
--- The instant of the next tick.
-abbrev moment : I → Instant
-moment c = c .before .before .before .before .plus .result
 
 -- A task that isn't fit ends the look.
 ends : (c : I) → fitAt day (state (passed c)) (c .before .loop .i) ≡ false → unfit ≡ surveyed day (state (passed c))
@@ -87,11 +83,12 @@ schedule c =
     ⊎-elim (λ w. sym (w .3 .ensures) ∙ not-false _ (w .4 .left))
     (λ w. plan-none day _ _ (sym (c .before .is-planned .ensures) ∙ w .0 .left)) (c .if3 .came)
 
-falling : (c : S) → let i = here (prior c) in c .if3 .stirs ≡ (i .before .loop .stirs || falls (moment i) (one i .schedule .alarm))
-falling c =
+starting : (c : S) → let i = here (prior c) in
+    momentOf (c .if3 .soonest) ≡ sooner (state (passed i) .now) (nextStart (one i .schedule .alarm)) (momentOf (i .before .loop .soonest))
+starting c =
     let i = here (prior c) in
-    ⊎-elim (λ w. stirs-more {a = i .before .loop .stirs} refl (w .7) (w .6 .ensures))
-    (λ w. stirs-same {a = i .before .loop .stirs} refl (w .1) (falls-none (moment i) (one i .schedule .alarm) (sym (c .before .is-planned .ensures) ∙ w .0 .left))) (c .if3 .came)
+    ⊎-elim (λ w. sooner-more (state (passed i) .now) (nextStart (one i .schedule .alarm)) (i .before .loop .soonest) refl (w .7) (w .6 .ensures))
+    (λ w. sooner-same (state (passed i) .now) (nextStart (one i .schedule .alarm)) (i .before .loop .soonest) refl (w .1) (no-start (one i .schedule .alarm) (sym (c .before .is-planned .ensures) ∙ w .0 .left))) (c .if3 .came)
 
 -- Where a start kept back has been looked at.
 abbrev U : Type 0
@@ -126,15 +123,14 @@ fits c =
     (λ w. fit-eased day (k .counts) (k .tasks) (k .locks) (one i) (priorities p) (schedule p) (start u) (sym (c .before .is-at-ease .ensures) ∙ not-false _ (w .0 .left)))
     (c .if7 .came)
 
-stirring :
-    (c : T) → let i = turn (started c) in
-    c .if7 .stirs ≡ (i .before .loop .stirs || falls (moment i) (one i .schedule .alarm) || delayEnds (moment i) (one i .hold))
-stirring c =
+coming : (c : T) → let i = turn (started c) in let now = state (passed i) .now in
+    momentOf (c .if7 .soonest) ≡ sooner now (delayEnd (one i .hold)) (sooner now (nextStart (one i .schedule .alarm)) (momentOf (i .before .loop .soonest)))
+coming c =
     let p = scheduled (started c) in
     let i = turn (started c) in
     let t = one i in
-    ⊎-elim (λ w. stirs-more (falling p) (w .6) (w .4 .ensures))
-    (λ w. stirs-same (falling p) (w .1) (eased (t .wait) (t .hold) (sym (c .before .is-at-ease .ensures) ∙ not-false _ (w .0 .left)) .ends (moment i)))
+    ⊎-elim (λ w. sooner-more (state (passed i) .now) (delayEnd (t .hold)) (p .if3 .soonest) (starting p) (w .6) (w .4 .ensures))
+    (λ w. sooner-same (state (passed i) .now) (delayEnd (t .hold)) (p .if3 .soonest) (starting p) (w .1) (eased (t .wait) (t .hold) (sym (c .before .is-at-ease .ensures) ∙ not-false _ (w .0 .left)) .ends))
     (c .if7 .came)
 
 running : (c : T) → let i = turn (started c) in c .if7 .runs ≡ canRun (state (passed i) .tasks) (i .before .loop .i)
@@ -162,16 +158,11 @@ returns c =
 cast-n : tie.Need-cast-n Inv-loop μ-loop
 cast-n c = search needs
 
-plus-requires : tie.Need-plus-requires Inv-loop μ-loop
-plus-requires c κs =
-    let r = c .before .before in
-    omega (arith, timely day (state (c .before)) (r .before .is-time-of-day .ensures) (r .are-counts-ok .ensures) (c .before .if1 .left))
-
 no-lead-requires : tie.Need-no-lead-requires Inv-loop μ-loop
 no-lead-requires c κs = search needs
 
 loop-holds : tie.Need-loop-holds Inv-loop μ-loop
-loop-holds c = rw (c .no-lead .ensures) (looked-none day _ _)
+loop-holds c = rw (c .no-lead .ensures) (looked-none day _)
 
 mul-current : tie.Need-mul-current Inv-loop μ-loop
 mul-current c = omega (arith, room c)
@@ -227,8 +218,8 @@ returns-3 c =
     c .unfit3 .ensures
     ∙ ends i (odd-schedule day (k .counts) (k .tasks) (k .locks) (one i) (sym (a .is-schedule-ok .ensures) ∙ not-true _ (c .before .if4 .taken)))
 
-falls-on-requires : tie.Need-falls-on-requires Inv-loop μ-loop
-falls-on-requires c κs = search needs
+sooner-start-requires : tie.Need-sooner-start-requires Inv-loop μ-loop
+sooner-start-requires c κs = search needs
 
 mul-t-3 : tie.Need-mul-t-3 Inv-loop μ-loop
 mul-t-3 c = omega (arith, room (here (prior c)))
@@ -306,8 +297,8 @@ returns-5 c =
     (sym (e .is-at-ease .ensures) ∙ not-true _ (b .before .before .if7 .taken))
     (sym (b .is-busy-ok .ensures (k .tasks)) ∙ not-true _ (c .before .if8 .taken)))
 
-ends-at-requires : tie.Need-ends-at-requires Inv-loop μ-loop
-ends-at-requires c κs = search needs
+sooner-end-requires : tie.Need-sooner-end-requires Inv-loop μ-loop
+sooner-end-requires c κs = search needs
 
 can-run-requires : tie.Need-can-run-requires Inv-loop μ-loop
 can-run-requires c κs = search needs
@@ -328,20 +319,24 @@ loop-again c =
     let t = c .before in
     let i = turn (started t) in
     let k = state (passed i) in
-    looked-next day k (moment i) (i .before .loop .inv) (i .loop-test .taken)
-    (fits t) (stirring t) (running t) (c .against-if .ensures)
+    looked-next day k (i .before .loop .inv) (i .loop-test .taken)
+    (t .if7 .soonest) (fits t) (coming t) (running t) (c .against-if .ensures)
+
+moment-of-requires : tie.Need-moment-of-requires Inv-loop μ-loop
+moment-of-requires c κs = search needs
 
 who-requires : tie.Need-who-requires Inv-loop μ-loop
 who-requires c κs = search needs
 
 returns-6 : tie.Need-returns-6 Inv-loop μ-loop
 returns-6 c =
-    let l = c .before .before in
-    let p = l .before .before .before .before .before in
+    let e = c .before .before in
+    let l = e .before in
+    let p = l .before .before .before .before in
     let k = state p in
-    fit-is day k (upto-all (l .loop .inv .tasks) (c .before .loop-test .left) ∙ all p)
-    (looked-stirs day k _ (l .loop .inv) (c .before .loop-test .left) (l .before .before .before .plus .ensures))
-    (c .who .ensures ∙ looked-runs day k _ (l .loop .inv) (c .before .loop-test .left))
+    fit-is day k (upto-all (l .loop .inv .tasks) (e .loop-test .left) ∙ all p)
+    (c .before .moment-of .ensures ∙ looked-event day k (l .loop .inv) (e .loop-test .left))
+    (c .who .ensures ∙ looked-runs day k (l .loop .inv) (e .loop-test .left))
 
 pub survey-spec : {M : Type 1} → statement M
 survey-spec =
@@ -354,7 +349,6 @@ survey-spec =
     unfit-requires
     returns
     cast-n
-    plus-requires
     no-lead-requires
     loop-holds
     mul-current
@@ -372,7 +366,7 @@ survey-spec =
     is-schedule-ok-requires
     unfit-requires-3
     returns-3
-    falls-on-requires
+    sooner-start-requires
     mul-t-3
     element-copy-out-t-3
     is-back-requires
@@ -393,11 +387,12 @@ survey-spec =
     is-busy-ok-requires
     unfit-requires-5
     returns-5
-    ends-at-requires
+    sooner-end-requires
     can-run-requires
     against-if-requires
     add-i
     loop-less
     loop-again
+    moment-of-requires
     who-requires
     returns-6)

@@ -26,8 +26,11 @@ mul-t c = search needs
 element-copy-out-t : tie.Need-element-copy-out-t Inv-loop μ-loop
 element-copy-out-t c = search needs
 
-next-of-requires : tie.Need-next-of-requires Inv-loop μ-loop
-next-of-requires c κs = search needs
+sooner-start-requires : tie.Need-sooner-start-requires Inv-loop μ-loop
+sooner-start-requires c κs = search needs
+
+sooner-end-requires : tie.Need-sooner-end-requires Inv-loop μ-loop
+sooner-end-requires c κs = search needs
 
 add-i : tie.Need-add-i Inv-loop μ-loop
 add-i c = search needs
@@ -37,9 +40,9 @@ loop-less c = search needs
 
 loop-again : tie.Need-loop-again Inv-loop μ-loop
 loop-again c =
-    let l = c .before .before .before .before .before .loop in
-    let k = c .before .before .before .before .before .before .before .before .before .args .t1 in
-    (search needs, among-more k (l .i) (l .soonest) (c .next-of .result) (l .inv .1) (c .next-of .ensures))
+    let l = c .before .before .before .before .before .before .loop in
+    let k = c .before .before .before .before .before .before .before .before .before .before .args .t1 in
+    (search needs, among-more k (l .i) (l .soonest) (c .sooner-end .result) (l .inv .1) (rw (← c .before .sooner-start .ensures) (c .sooner-end .ensures)))
 
 moment-of-requires : tie.Need-moment-of-requires Inv-loop μ-loop
 moment-of-requires c κs = search needs
@@ -60,7 +63,8 @@ next-event-spec =
     loop-holds
     mul-t
     element-copy-out-t
-    next-of-requires
+    sooner-start-requires
+    sooner-end-requires
     add-i
     loop-less
     loop-again
