@@ -12,7 +12,7 @@ use Rattle.machine.proofs.Rows.{final-append}
 use Rattle.balance.specs.Fresh.{AllOctets}
 use Rattle.balance.proofs.Parted.{all-parted}
 use Rattle.script.specs.Records.{cut, records}
-use Rattle.script.specs.Script.{Runs}
+use Rattle.script.specs.Script.{goingOn, Runs}
 use Rattle.script.proofs.Going.{octets-part}
 use Rattle.script.proofs.PromiseProofs.{scripts-carried}
 use Rattle.delivery.specs.Scripted.{ScriptBalances, RestBalances}
@@ -40,18 +40,18 @@ unfolding records
 all-octets s = octets-cut (length s) s
 
 pub rest-balances : RestBalances
-rest-balances a past p m script before after r o u =
+rest-balances p past q m bytes before after r o u =
     let k = final day nothing past in
-    let t : Runs day k script before after r = rw (← u .refers .0, ← u .refers .1, ← u .refers .2, ← m) (u .learnt) in
-    let c = scripts-carried day k (records script) (length before) in
+    let t : Runs day (goingOn k) bytes before after r = rw (← u .refers .0, ← u .refers .1, ← u .refers .2, ← m) (u .learnt) in
+    let c = scripts-carried day (goingOn k) (records bytes) (length before) in
     record {
       done = c .done;
       split = c .split ∙ ap (λ (l : List (List ℕ)). c .done ++ l) (sym (t .rest));
       text = rw (c .text) at (t .text);
-      state = t .state ∙ c .state ∙ sym (final-append day nothing past (c .done));
-      parted = all-parted day isDay (past ++ c .done) (octets-both past (c .done) p (octets-first (c .done) _ (rw (c .split) at (all-octets script o))));
+      script = t .script ∙ c .script ∙ ap goingOn (sym (final-append day nothing past (c .done)));
+      parted = all-parted day isDay (past ++ c .done) (octets-both past (c .done) q (octets-first (c .done) _ (rw (c .split) at (all-octets bytes o))));
     }
 
 pub script-balances : ScriptBalances
 unfolding final AllOctets
-script-balances a m = rest-balances a [] tt m
+script-balances a m p b = rest-balances p [] tt (b ∙ ap goingOn m)

@@ -8,39 +8,41 @@ ghost use Rattle.calendar.specs.Limits.{day};
 ghost use Rattle.machine.specs.Log.{final};
 ghost use Rattle.lines.specs.Lines.{longestLine};
 ghost use Rattle.script.specs.Records.{records};
+ghost use Rattle.script.specs.Script.{goingOn};
 use kernel::Kernel;
 use layout::RECORD_LENGTH;
 use libc::STDIN_FILENO;
 use libc::STDOUT_FILENO;
+use script::Script;
 use script::run::run;
 
-// The kernel after some records, and whether their lines could be written.
+// The script after some records, and whether their lines could be written.
 struct Progress {
-    kernel: Kernel,
+    script: Script,
     ok: bool,
 }
 
-// Carries the records of s out and writes their lines, a buffer full at a time.
-fn carry(kernel: Kernel, s: &[u8], out: &mut [u8]) -> Progress
+// Carries the records of bytes out and writes their lines, a buffer full at a time.
+fn carry(script: Script, bytes: &[u8], out: &mut [u8]) -> Progress
     requires { ⌜ longestLine ≤ length (now out) ⌝ }
-    ensures { λ r. ⌜ (r .ok ≡ true → r .kernel .state ≡ final day (kernel .state) (records (now (s .entry)))) ⌝ }
+    ensures { λ r. ⌜ (r .ok ≡ true → r .script ≡ goingOn (final day (script .kernel .state) (records (now (bytes .entry))))) ⌝ }
 {
-    let mut now = kernel;
+    let mut now = script;
     let mut at = 0;
-    while at < s.len() {
-        let ran = run(now, &s[at..], out);
-        now = ran.kernel;
+    while at < bytes.len() {
+        let ran = run(now, &bytes[at..], out);
+        now = ran.script;
         at = at + ran.read;
         if !io::write_all(STDOUT_FILENO, &out[..ran.written]) {
             os::fail(b"rackrun: standard output");
             return Progress {
-                kernel: now,
+                script: now,
                 ok: false,
             };
         }
     }
     Progress {
-        kernel: now,
+        script: now,
         ok: true,
     }
 }
@@ -63,7 +65,7 @@ fn keep(buf: &mut [u8], from: usize, to: usize) -> usize
 fn main() {
     let mut input = io::large_buffer();
     let mut output = io::large_buffer();
-    let mut kernel = Kernel::fresh();
+    let mut script = Script::begin(Kernel::fresh());
     let mut held = 0;
     let mut turns = u64::MAX;
     while turns > 0 {
@@ -80,14 +82,14 @@ fn main() {
         } else {
             total - total % RECORD_LENGTH
         };
-        let p = carry(kernel, &input[..whole], &mut output);
+        let p = carry(script, &input[..whole], &mut output);
         if !p.ok {
             return;
         }
         if n == 0 {
             return;
         }
-        kernel = p.kernel;
+        script = p.script;
         held = keep(&mut input, whole, total);
     }
 }

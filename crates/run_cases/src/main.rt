@@ -3,20 +3,21 @@
 ghost use mathlib.Core.Path.{_≡_};
 ghost use Prim.Native.Nat.{_≤_};
 use kernel::Kernel;
+use script::Script;
 use script::run::run;
 
 // A script's lines, a buffer full at a time.
 fn print_script(s: &[u8]) {
     let mut out = [0u8; 200];
-    let mut kernel = Kernel::fresh();
+    let mut script = Script::begin(Kernel::fresh());
     let mut at = 0;
     while at < s.len() {
-        let ran = run(kernel, &s[at..], &mut out);
+        let ran = run(script, &s[at..], &mut out);
         io::write_all(1, &out[..ran.written]);
         if ran.read == 0 {
             return;
         }
-        kernel = ran.kernel;
+        script = ran.script;
         at = at + ran.read;
     }
 }

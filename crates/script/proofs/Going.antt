@@ -37,9 +37,10 @@ use Rattle.lock.proofs.Bools.{byBool, both}
 use Rattle.calls.specs.Stirring.{isTick}
 use Rattle.script.specs.Records.{records}
 use Rattle.script.specs.Printed.{shown, printed}
-use Rattle.script.specs.Script.{afterText, carried, some, Tells}
+use Rattle.script.specs.Script.{goingOn, afterText, carried, some, Tells, Runs}
+use Rattle.script.specs.declared.Script.{Script}
 use Rattle.script.proofs.RecordLaws.{record-at, records-over}
-use Rattle.script.proofs.CarryLaws.{carried-none, carried-stop, carried-go, after-after}
+use Rattle.script.proofs.CarryLaws.{goes-on, carried-none, carried-stop, carried-go, after-after}
 use Rattle.calls.proofs.StirLaws.{tick-bytes}
 use Rattle.script.proofs.PrintLaws.{says, says-line}
 
@@ -68,25 +69,25 @@ still-next k e d l =
     (omega arith, next-is-next k .quiet d (p .1))
 
 -- The text so far, and what is carried on from here gives the whole.
-pub record Going (script before : List ℕ) (start : State) (ok : Bool) (buffer : List ℕ) (k : State) (r : Running) (quiet at fill : ℕ) : Type 0 where
+pub record Going (bytes before : List ℕ) (start : State) (ok : Bool) (buffer : List ℕ) (k : State) (r : Running) (quiet at fill : ℕ) : Type 0 where
   pub text : List ℕ
   pub wrote : Wrote before 0 text buffer fill
   pub room : fill ≤ length before
   pub long : length buffer ≡ length before
-  pub within : at ≤ length script
-  pub octets : Octets script
+  pub within : at ≤ length bytes
+  pub octets : Octets bytes
   pub tables : Tables k
   pub tested : ok ≡ valid day k
   pub runs : ok ≡ true → r ≡ runner k
   pub still : ok ≡ true → Still quiet k
-  pub rest : carried day start (records script) (length before) ≡ afterText text (carried day k (records (drop at script)) (length before - fill))
+  pub rest : carried day (goingOn start) (records bytes) (length before) ≡ afterText text (carried day (goingOn k) (records (drop at bytes)) (length before - fill))
 
 -- The loop's test: there is a next record, and room for a longest line.
 abbrev pub goes : List ℕ → List ℕ → ℕ → ℕ → Bool
-goes script buffer at fill = ltb at (length script) && leb longestLine (length buffer - fill)
+goes bytes buffer at fill = ltb at (length bytes) && leb longestLine (length buffer - fill)
 
-module _ {script before : List ℕ} {start : State} {ok : Bool} {buffer : List ℕ} {k : State} {r : Running} {quiet at fill : ℕ}
-    (g : Going script before start ok buffer k r quiet at fill) where
+module _ {bytes before : List ℕ} {start : State} {ok : Bool} {buffer : List ℕ} {k : State} {r : Running} {quiet at fill : ℕ}
+    (g : Going bytes before start ok buffer k r quiet at fill) where
   pub good : ok ≡ true → valid day k ≡ true
   good o = sym (g .tested) ∙ o
 
@@ -100,47 +101,47 @@ module _ {script before : List ℕ} {start : State} {ok : Bool} {buffer : List �
   few o = ok-of o .counts-ok .tasks
 
   -- What is left has no room, or there is nothing left.
-  told : (full : Bool) → carried day k (records (drop at script)) (length before - fill) ≡ record { state = k; text = []; left = records (drop at script) }
-      → full ≡ some (records (drop at script))
-      → Tells (carried day start (records script) (length before)) script before buffer
-      (record { kernel = record { state = k }; read = at; written = fill; full = full })
+  told : (full : Bool) → carried day (goingOn k) (records (drop at bytes)) (length before - fill) ≡ record { script = goingOn k; text = []; left = records (drop at bytes) }
+      → full ≡ some (records (drop at bytes))
+      → Tells (carried day (goingOn start) (records bytes) (length before)) bytes before buffer
+      (record { script = goingOn k; read = at; written = fill; full = full })
   told full e f =
-      let w : carried day start (records script) (length before) ≡ record { state = k; text = g .text; left = records (drop at script) } =
+      let w : carried day (goingOn start) (records bytes) (length before) ≡ record { script = goingOn k; text = g .text; left = records (drop at bytes) } =
       g .rest ∙ rw (e, append-nil (g .text)) in
-      rw w (record { state = refl; text = g .wrote; within = g .within; rest = refl; full = f })
+      rw w (record { script = refl; text = g .wrote; within = g .within; rest = refl; full = f })
 
-  pub ahead : goes script buffer at fill ≡ true → at < length script
-  ahead e = ltb-true at (length script) (both (ltb at (length script)) (leb longestLine (length buffer - fill)) e .0)
+  pub ahead : goes bytes buffer at fill ≡ true → at < length bytes
+  ahead e = ltb-true at (length bytes) (both (ltb at (length bytes)) (leb longestLine (length buffer - fill)) e .0)
 
-  pub fits : goes script buffer at fill ≡ true → fill + longestLine ≤ length buffer
+  pub fits : goes bytes buffer at fill ≡ true → fill + longestLine ≤ length buffer
   fits e =
-      let l = leb-true longestLine (length buffer - fill) (both (ltb at (length script)) (leb longestLine (length buffer - fill)) e .1) in
+      let l = leb-true longestLine (length buffer - fill) (both (ltb at (length bytes)) (leb longestLine (length buffer - fill)) e .1) in
       omega (arith, g .room, g .long)
 
   -- After it, what is left decides whether it is full.
-  pub stopped : goes script buffer at fill ≡ false
-      → Tells (carried day start (records script) (length before)) script before buffer
-      (record { kernel = record { state = k }; read = at; written = fill; full = ltb at (length script) })
-  stopped e =
-      byBool (ltb at (length script))
+  pub stopped : (p : Script) → p .kernel .state ≡ start → goes bytes buffer at fill ≡ false
+      → Runs day p bytes before buffer (record { script = goingOn k; read = at; written = fill; full = ltb at (length bytes) })
+  stopped p s e =
+      rw (goes-on p, s)
+      (byBool (ltb at (length bytes))
       (λ h.
-      let i = record-at script at (min (at + recordLength) (length script)) (ltb-true at (length script) h) refl in
+      let i = record-at bytes at (min (at + recordLength) (length bytes)) (ltb-true at (length bytes) h) refl in
       let l = leb-false longestLine (length buffer - fill) (rw h at e) in
-      told (ltb at (length script)) (rw i (carried-stop day k _ _ (length before - fill) (omega (arith, g .long)))) (rw (h, i)))
+      told (ltb at (length bytes)) (rw i (carried-stop day k _ _ (length before - fill) (omega (arith, g .long)))) (rw (h, i)))
       (λ h.
-      let i = records-over script at (ltb-false at (length script) h) in
-      told (ltb at (length script)) (rw i (carried-none day k (length before - fill))) (rw (h, i)))
+      let i = records-over bytes at (ltb-false at (length bytes) h) in
+      told (ltb at (length bytes)) (rw i (carried-none day (goingOn k) (length before - fill))) (rw (h, i))))
 
-  module _ (to : ℕ) (on : goes script buffer at fill ≡ true) (e : to ≡ min (at + recordLength) (length script))
+  module _ (to : ℕ) (on : goes bytes buffer at fill ≡ true) (e : to ≡ min (at + recordLength) (length bytes))
       {buffer′ : List ℕ} {fill′ : ℕ} where
     -- One record more, with the machine's step z on it and z's line.
-    turned : {r′ : Running} {quiet′ : ℕ} (z : Stepped) → z ≡ step day k (part script at to)
+    turned : {r′ : Running} {quiet′ : ℕ} (z : Stepped) → z ≡ step day k (part bytes at to)
         → Wrote buffer fill (shown (says z) (z .answer)) buffer′ fill′ → fill′ ≤ fill + longestLine → length buffer′ ≡ length buffer
         → Tables (z .state) → ok ≡ valid day (z .state) → (ok ≡ true → r′ ≡ runner (z .state)) → (ok ≡ true → Still quiet′ (z .state))
-        → Going script before start ok buffer′ (z .state) r′ quiet′ to fill′
+        → Going bytes before start ok buffer′ (z .state) r′ quiet′ to fill′
     turned z m w n b s v u q =
         let t : List ℕ = shown (says z) (z .answer) in
-        let p : printed (part script at to) (step day k (part script at to) .answer) ≡ t = unfold printed in rw (says-line day k (part script at to), ← m) in
+        let p : printed (part bytes at to) (step day k (part bytes at to) .answer) ≡ t = unfold printed in rw (says-line day k (part bytes at to), ← m) in
         let d : length before - fill - length t ≡ length before - fill′ = omega (arith, w .place) in
         record {
           text = g .text ++ t;
@@ -155,27 +156,27 @@ module _ {script before : List ℕ} {start : State} {ok : Bool} {buffer : List �
           still = q;
           rest =
               g .rest
-              ∙ rw (record-at script at to (ahead on) e, carried-go day k (part script at to) (records (drop to script)) (length before - fill) (omega (arith, g .long, fits on)), p, ← m, d)
+              ∙ rw (record-at bytes at to (ahead on) e, carried-go day k (part bytes at to) (records (drop to bytes)) (length before - fill) (omega (arith, g .long, fits on)), p, ← m, d)
               (after-after (g .text) t _);
         }
 
     -- A kernel that fails the test is refused, and stays.
     pub refused : ok ≡ false → Wrote buffer fill (line (plainAnswer 1 Idle)) buffer′ fill′ → fill′ ≤ fill + longestLine → length buffer′ ≡ length buffer
-        → Going script before start ok buffer′ k r quiet to fill′
+        → Going bytes before start ok buffer′ k r quiet to fill′
     refused o w n b =
-        turned (record { state = k; answer = plainAnswer 1 Idle }) (sym (untested-refused day k (part script at to) (sym (g .tested) ∙ o))) w n b (g .tables) (g .tested)
+        turned (record { state = k; answer = plainAnswer 1 Idle }) (sym (untested-refused day k (part bytes at to) (sym (g .tested) ∙ o))) w n b (g .tables) (g .tested)
         (g .runs) (g .still)
 
     module _ (o : ok ≡ true) where
       -- Before the next event a tick only moves the present.
-      pub moved : (q : ℕ) → Still q k → isTick (part script at to) ≡ true → k .now .0 + 1 < q
+      pub moved : (q : ℕ) → Still q k → isTick (part bytes at to) ≡ true → k .now .0 + 1 < q
           → Wrote buffer fill (line (plainAnswer 0 r)) buffer′ fill′ → fill′ ≤ fill + longestLine → length buffer′ ≡ length buffer
-          → Going script before start ok buffer′ (begunAt (plus (k .now) (duration 1)) k) r q to fill′
+          → Going bytes before start ok buffer′ (begunAt (plus (k .now) (duration 1)) k) r q to fill′
       moved q s t j w n b =
           let i = s 1 j .0 in
           let z : Stepped = record { state = begunAt (plus (k .now) (duration 1)) k; answer = plainAnswer 0 r } in
-          let m : z ≡ step day k (part script at to) =
-          rw (tick-bytes (part script at to) t, g .runs o)
+          let m : z ≡ step day k (part bytes at to) =
+          rw (tick-bytes (part bytes at to) t, g .runs o)
           (sym (quiet-step day k (g .tables .tasks) (good o) (s 1 j .1) (omega arith))) in
           let v : valid day (z .state) ≡ true = still-valid day k (plus (k .now) (duration 1)) (omega arith) (omega arith) (good o) in
           turned z m w n b
@@ -184,19 +185,19 @@ module _ {script before : List ℕ} {start : State} {ok : Bool} {buffer : List �
           (λ _ d l. let p = s (suc d) (omega arith) in (omega arith, λ c m x a b. p .1 c m x (omega arith) (omega arith)))
 
       -- Any other record.
-      pub stepped : (z : Stepped) → z ≡ step day k (part script at to)
+      pub stepped : (z : Stepped) → z ≡ step day k (part bytes at to)
           → Wrote buffer fill (shown (says z) (z .answer)) buffer′ fill′ → fill′ ≤ fill + longestLine → length buffer′ ≡ length buffer
-          → Going script before start ok buffer′ (z .state) (z .answer .running) 0 to fill′
+          → Going bytes before start ok buffer′ (z .state) (z .answer .running) 0 to fill′
       stepped z m w n b =
-          let p = step-passes day isDay k (record { tables = g .tables; tested = good o }) (part script at to) (octets-part script at to (g .octets)) in
-          turned z m w n b (rw m (p .tables)) (o ∙ sym (rw m (p .tested))) (λ _. rw m (answers-runner day k (part script at to) (good o)))
+          let p = step-passes day isDay k (record { tables = g .tables; tested = good o }) (part bytes at to) (octets-part bytes at to (g .octets)) in
+          turned z m w n b (rw m (p .tables)) (o ∙ sym (rw m (p .tested))) (λ _. rw m (answers-runner day k (part bytes at to) (good o)))
           (λ _ d l. absurd (omega arith))
 
 -- Where the loop begins.
-pub started : (script before : List ℕ) (k : State) (ok : Bool) (r : Running) (q : ℕ) → Octets script → Tables k → ok ≡ valid day k → (valid day k ≡ true → r ≡ runner k)
-    → (valid day k ≡ true → Still q k) → Going script before k ok before k r q 0 0
+pub started : (bytes before : List ℕ) (k : State) (ok : Bool) (r : Running) (q : ℕ) → Octets bytes → Tables k → ok ≡ valid day k → (valid day k ≡ true → r ≡ runner k)
+    → (valid day k ≡ true → Still q k) → Going bytes before k ok before k r q 0 0
 unfolding placed
-started script before k ok r q o t v u s =
+started bytes before k ok r q o t v u s =
     let d : length before - 0 ≡ length before = omega arith in
     record {
       text = [];

@@ -12,20 +12,22 @@ use Rattle.lines.specs.Decimals.{spelt, decimal}
 use Rattle.lines.specs.Lines.{runningText, setsText, line}
 use Rattle.script.specs.Records.{cut, records}
 use Rattle.script.specs.Printed.{silent, printed, lines}
+use Rattle.script.specs.Script.{goingOn}
 use Rattle.script.specs.Promises.{RunsWhole}
 use Rattle.script.specs.Marked.{ascii, m1Script, m1Text, M1Prints}
 use Rattle.script.proofs.RecordLaws.{none-left}
 use Rattle.script.proofs.PromiseProofs.{scripts-carried}
 
 pub runs-whole : RunsWhole
-runs-whole day k script before after r h t =
-    let c = scripts-carried day k (records script) (length before) in
+runs-whole day p bytes before after r h t =
+    let k = p .kernel .state in
+    let c = scripts-carried day p (records bytes) (length before) in
     let none = c .all h in
-    let done : records script ≡ c .done = c .split ∙ ap (λ (l : List (List ℕ)). c .done ++ l) none ∙ append-nil (c .done) in
+    let done : records bytes ≡ c .done = c .split ∙ ap (λ (l : List (List ℕ)). c .done ++ l) none ∙ append-nil (c .done) in
     record {
       text = rw (ap (λ (l : List (List ℕ)). lines (log day k l)) done ∙ sym (c .text)) (t .text);
-      state = t .state ∙ c .state ∙ ap (final day k) (sym done);
-      read = omega (arith, t .within, none-left (drop (r .read) script) (t .rest ∙ none), length-drop (r .read) script);
+      script = t .script ∙ c .script ∙ ap (λ (l : List (List ℕ)). goingOn (final day k l)) (sym done);
+      read = omega (arith, t .within, none-left (drop (r .read) bytes) (t .rest ∙ none), length-drop (r .read) bytes);
       full = rw none at (t .full);
     }
 
@@ -38,4 +40,4 @@ unfolding cut records ascii
 m1-count = refl
 
 pub m1-prints : M1Prints
-m1-prints before after r h t = rw (← m1-lines) (runs-whole day nothing m1Script before after r (rw m1-count h) t)
+m1-prints before after r h t = rw (← m1-lines) (runs-whole day (goingOn nothing) m1Script before after r (rw m1-count h) t)

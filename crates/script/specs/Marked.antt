@@ -10,7 +10,7 @@ use Rattle.machine.specs.State.{nothing}
 use Rattle.machine.specs.Log.{final}
 use Rattle.lines.specs.Lines.{longestLine}
 use Rattle.script.specs.Records.{records}
-use Rattle.script.specs.Script.{Runs}
+use Rattle.script.specs.Script.{goingOn, Runs}
 use Rattle.script.specs.Promises.{Prints}
 use Rattle.script.specs.declared.run.Ran.{Ran}
 
@@ -47,5 +47,5 @@ m1Text =
 -- From the fresh kernel, into any buffer with room for nine lines.
 abbrev pub M1Prints : Type 0
 M1Prints =
-    (before after : List ℕ) (r : Ran) → longestLine * 9 ≤ length before → Runs day nothing m1Script before after r
+    (before after : List ℕ) (r : Ran) → longestLine * 9 ≤ length before → Runs day (goingOn nothing) m1Script before after r
     → Prints m1Text (final day nothing (records m1Script)) m1Script before after r

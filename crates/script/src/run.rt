@@ -8,6 +8,8 @@ ghost use Rattle.lines.specs.Buffers.{Wrote};
 ghost use Rattle.lines.specs.Lines.{longestLine};
 ghost use Rattle.script.specs.Printed.{shown};
 ghost use Rattle.script.specs.Script.{Runs};
+use crate::Script;
+use crate::Stand;
 use calendar::Duration;
 use calendar::LAST_INSTANT;
 use calls::quiet::is_tick;
@@ -24,10 +26,10 @@ use survey::next::next_event;
 
 pub const LONGEST_LINE: usize = 63;
 
-// What became of a script: the kernel after it, how much of it was read, and how much text was written. It is full
-// where the room didn't reach for the next line.
+// What became of a script's bytes: the script after them, how many were read, and how much text was written. It is
+// full where the room didn't reach for the next line.
 pub struct Ran {
-    pub kernel: Kernel,
+    pub script: Script,
     pub read: usize,
     pub written: usize,
     pub full: bool,
@@ -57,21 +59,21 @@ fn line_if(show: bool, a: Answer, out: &mut [u8], at: usize) -> usize
     at
 }
 
-// The script s, with as many lines as there is room for in out. A tick to an instant before quiet only moves the
-// present; quiet is the next event, found again at the first tick after another record, or 0 while it isn't known.
-pub fn run(kernel: Kernel, s: &[u8], out: &mut [u8]) -> Ran
-    ensures { λ r. ⌜ Runs day (kernel .state) (now (s .entry)) (now (out .entry)) (now (out .exit)) r ⌝ }
+// The script over bytes, with as many lines as there is room for in out. A tick to an instant before quiet only moves
+// the present; quiet is the next event, found again at the first tick after another record, or 0 while it isn't known.
+pub fn run(script: Script, bytes: &[u8], out: &mut [u8]) -> Ran
+    ensures { λ r. ⌜ Runs day script (now (bytes .entry)) (now (out .entry)) (now (out .exit)) r ⌝ }
 {
-    let mut k = kernel.state;
+    let mut k = script.kernel.state;
     let v = survey(k);
     let mut r = v.runner;
     let next = v.next;
     let mut quiet = next.up_to(LAST_INSTANT + 1);
     let mut at = 0;
     let mut fill = 0;
-    while (at < s.len()) & (LONGEST_LINE <= out.len() - fill) {
-        let to = end_of(at, s.len());
-        let rec = &s[at..to];
+    while (at < bytes.len()) & (LONGEST_LINE <= out.len() - fill) {
+        let to = end_of(at, bytes.len());
+        let rec = &bytes[at..to];
         at = to;
         if !v.ok {
             fill = line_at(plain(1, Running::Idle), out, fill);
@@ -94,10 +96,14 @@ pub fn run(kernel: Kernel, s: &[u8], out: &mut [u8]) -> Ran
         quiet = 0;
         fill = line_if((a.number != 0) | k.begun, a, out, fill);
     }
+    let kernel = Kernel { state: k };
     Ran {
-        kernel: Kernel { state: k },
+        script: Script {
+            kernel,
+            stands: Stand::GoingOn,
+        },
         read: at,
         written: fill,
-        full: at < s.len(),
+        full: at < bytes.len(),
     }
 }

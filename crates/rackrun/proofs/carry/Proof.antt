@@ -18,12 +18,12 @@ use Rattle.rackrun.proofs.carry.Statement.{statement}
 use Rattle.rackrun.proofs.carry.Tie as tie
 
 abbrev Inv-loop : tie.InvT-loop
-Inv-loop s out₀ now₀ at₀ t7 out now at =
-    (length out ≡ length out₀) × (at ≤ length s)
-    × (final day (now .state) (records (drop at s)) ≡ final day (now₀ .state) (records s))
+Inv-loop bytes out₀ now₀ at₀ t7 out now at =
+    (length out ≡ length out₀) × (at ≤ length bytes)
+    × (final day (now .kernel .state) (records (drop at bytes)) ≡ final day (now₀ .kernel .state) (records bytes))
 
 abbrev μ-loop : tie.MeasureT-loop
-μ-loop s out₀ now₀ at₀ t7 out now at = length s - at
+μ-loop bytes out₀ now₀ at₀ t7 out now at = length bytes - at
 
 -- Where a run has come back, and the loop's head before it.
 abbrev U : Type 0
@@ -35,21 +35,21 @@ H = tie.At-loop Inv-loop μ-loop
 abbrev headOf : U → H
 headOf u = u .before .before .before .before
 
-abbrev script : H → List ℕ
-script h = h .before .before .before .args .s .now
+abbrev bytesOf : H → List ℕ
+bytesOf h = h .before .before .before .args .bytes .now
 
-runs : (u : U) → Runs day (headOf u .loop .now .state) (drop (headOf u .loop .at) (script (headOf u))) (headOf u .loop .out) (u .run .last .1 .1 .0) (u .run .result)
+runs : (u : U) → Runs day (headOf u .loop .now) (drop (headOf u .loop .at) (bytesOf (headOf u))) (headOf u .loop .out) (u .run .last .1 .1 .0) (u .run .result)
 runs u =
     let h = headOf u in
-    subst (λ (x : List ℕ). Runs day (h .loop .now .state) x (h .loop .out) (u .run .last .1 .1 .0) (u .run .result)) (part-to-end (script h) (h .loop .at)) (u .run .ensures)
+    subst (λ (x : List ℕ). Runs day (h .loop .now) x (h .loop .out) (u .run .last .1 .1 .0) (u .run .result)) (part-to-end (bytesOf h) (h .loop .at)) (u .run .ensures)
 
-within : (u : U) → headOf u .loop .at + u .run .result .read ≤ length (script (headOf u))
-within u = omega (arith, runs u .within, length-drop (headOf u .loop .at) (script (headOf u)))
+within : (u : U) → headOf u .loop .at + u .run .result .read ≤ length (bytesOf (headOf u))
+within u = omega (arith, runs u .within, length-drop (headOf u .loop .at) (bytesOf (headOf u)))
 
 on : (u : U) → 0 < u .run .result .read
 on u =
     let h = headOf u in
-    gets-on _ (script h) _ _ (h .loop .at) (u .run .result) (runs u) (omega (arith, h .loop .inv .0, h .before .before .before .pre)) (omega arith)
+    gets-on _ (bytesOf h) _ _ (h .loop .at) (u .run .result) (runs u) (omega (arith, h .loop .inv .0, h .before .before .before .pre)) (omega arith)
 
 fits : (u : U) → u .run .result .written ≤ length (u .run .last .1 .1 .0)
 fits u = text-within (runs u .text)
@@ -99,7 +99,7 @@ loop-less c = let u = c .before .before .before .before .before .before .before 
 loop-again : tie.Need-loop-again Inv-loop μ-loop
 loop-again c =
     let u = c .before .before .before .before .before .before .before in
-    (u .run .kept .1 .1 .0 ∙ headOf u .loop .inv .0, within u, stays _ (script (headOf u)) _ _ (headOf u .loop .at) (u .run .result) (runs u) ∙ headOf u .loop .inv .2)
+    (u .run .kept .1 .1 .0 ∙ headOf u .loop .inv .0, within u, stays _ (bytesOf (headOf u)) _ _ (headOf u .loop .at) (u .run .result) (runs u) ∙ headOf u .loop .inv .2)
 
 same-length-2 : tie.Need-same-length-2 Inv-loop μ-loop
 same-length-2 c = search needs
@@ -107,7 +107,7 @@ same-length-2 c = search needs
 returns-2 : tie.Need-returns-2 Inv-loop μ-loop
 returns-2 c =
     let h = c .before in
-    λ e. at-end (h .loop .now .state) (script h) (h .loop .at) (omega arith) (h .loop .inv .2)
+    λ e. at-end (h .loop .now) (bytesOf h) (h .loop .at) (omega arith) (h .loop .inv .2)
 
 pub carry-spec : {M : Type 1} → statement M
 carry-spec =

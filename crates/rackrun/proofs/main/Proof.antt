@@ -13,10 +13,10 @@ use Rattle.rackrun.proofs.main.Statement.{statement}
 use Rattle.rackrun.proofs.main.Tie as tie
 
 abbrev Inv-loop : tie.InvT-loop
-Inv-loop input₀ output₀ rack₀ held₀ turns₀ t11 input output kernel held turns = (65536 ≡ length input) × (65536 ≡ length output) × (held < 24)
+Inv-loop input₀ output₀ script₀ held₀ turns₀ t11 input output script held turns = (65536 ≡ length input) × (65536 ≡ length output) × (held < 24)
 
 abbrev μ-loop : tie.MeasureT-loop
-μ-loop input₀ output₀ rack₀ held₀ turns₀ t11 input output kernel held turns = turns
+μ-loop input₀ output₀ script₀ held₀ turns₀ t11 input output script held turns = turns
 
 -- Where input was read into, and where it is known how much of it is whole records.
 abbrev R : Type 0
@@ -59,6 +59,9 @@ large-buffer-requires-2 c κs = search needs
 
 fresh-requires : tie.Need-fresh-requires Inv-loop μ-loop
 fresh-requires c κs = search needs
+
+begin-requires : tie.Need-begin-requires Inv-loop μ-loop
+begin-requires c κs = search needs
 
 loop-holds : tie.Need-loop-holds Inv-loop μ-loop
 loop-holds c = search needs
@@ -153,6 +156,7 @@ main-spec =
     large-buffer-requires
     large-buffer-requires-2
     fresh-requires
+    begin-requires
     loop-holds
     sub-turns
     sub-read

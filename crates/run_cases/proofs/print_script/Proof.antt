@@ -10,10 +10,10 @@ use Rattle.run_cases.proofs.print_script.Statement.{statement}
 use Rattle.run_cases.proofs.print_script.Tie as tie
 
 abbrev Inv-loop : tie.InvT-loop
-Inv-loop s out₀ rack₀ at₀ out kernel at = (200 ≡ length out) × (at ≤ length s)
+Inv-loop s out₀ script₀ at₀ out script at = (200 ≡ length out) × (at ≤ length s)
 
 abbrev μ-loop : tie.MeasureT-loop
-μ-loop s out₀ rack₀ at₀ out kernel at = length s - at
+μ-loop s out₀ script₀ at₀ out script at = length s - at
 
 -- Where a run has come back.
 written-in : (c : tie.After-run Inv-loop μ-loop) → c .run .result .written ≤ length (c .run .last .1 .1 .0)
@@ -21,6 +21,9 @@ written-in c = text-within (c .run .ensures .text)
 
 fresh-requires : tie.Need-fresh-requires Inv-loop μ-loop
 fresh-requires c κs = search needs
+
+begin-requires : tie.Need-begin-requires Inv-loop μ-loop
+begin-requires c κs = search needs
 
 loop-holds : tie.Need-loop-holds Inv-loop μ-loop
 loop-holds c = search needs
@@ -53,7 +56,7 @@ returns : tie.Need-returns Inv-loop μ-loop
 returns c = search needs
 
 add-at : tie.Need-add-at Inv-loop μ-loop
-add-at c = omega (arith, c .before .before .before .before .before .before .before .run .ensures .within, c .before .before .before .before .before .before .before .before, c .before .before .before .before .before .before .before .before .before .before .before, c .before .before .before .before .before .before .before .before .before .before .before .before .before .before .good .0 .0)
+add-at c = omega (arith, c .before .before .before .before .before .before .before .run .ensures .within, c .before .before .before .before .before .before .before .before, c .before .before .before .before .before .before .before .before .before .before .before, c .before .before .before .before .before .before .before .before .before .before .before .before .before .before .before .good .0 .0)
 
 loop-less : tie.Need-loop-less Inv-loop μ-loop
 loop-less c = search needs
@@ -71,6 +74,7 @@ print-script-spec =
     Inv-loop
     μ-loop
     fresh-requires
+    begin-requires
     loop-holds
     sub-run
     part-run-start

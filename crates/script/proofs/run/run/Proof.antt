@@ -1,7 +1,7 @@
 -- What is carried on stays the same, and the text grows by each record's line.
 use borrow.Author.Needs.{needs}
 use borrow.Author.Tests.{not-true, not-false, ltb-true}
-use mathlib.Core.Path.{_≡_, sym, ap, _∙_, subst}
+use mathlib.Core.Path.{_≡_, refl, sym, ap, _∙_, subst}
 use mathlib.Core.Bool.{true}
 use mathlib.Core.Logic.{⊎-elim}
 use Prim.Native.Nat.{ℕ, _+_, _-_, _≤_, _<_}
@@ -19,10 +19,10 @@ use Rattle.script.proofs.run.run.Statement.{statement}
 use Rattle.script.proofs.run.run.Tie as tie
 
 abbrev Inv-loop : tie.InvT-loop
-Inv-loop s out₀ k₀ v r₀ quiet₀ at₀ fill₀ out k r quiet at fill = Going s out₀ k₀ (v .ok) out k r quiet at fill
+Inv-loop bytes out₀ k₀ v r₀ quiet₀ at₀ fill₀ out k r quiet at fill = Going bytes out₀ k₀ (v .ok) out k r quiet at fill
 
 abbrev μ-loop : tie.MeasureT-loop
-μ-loop s out₀ k₀ v r₀ quiet₀ at₀ fill₀ out k r quiet at fill = length s - at
+μ-loop bytes out₀ k₀ v r₀ quiet₀ at₀ fill₀ out k r quiet at fill = length bytes - at
 
 -- Where a record's end is known.
 abbrev N : Type 0
@@ -66,9 +66,9 @@ loop-holds c =
     let v = c .before in
     let s = v .before .before .before .before in
     let a = s .args in
-    let k = a .kernel .state in
-    let o = s .good .0 .1 .1 .0 in
-    started (a .s .now) (a .out .now) k (v .survey .result .ok) (v .survey .result .runner) (c .up-to .result)
+    let k = a .script .kernel .state in
+    let o = s .good .0 .1 .1 .0 .1 .1 .0 in
+    started (a .bytes .now) (a .out .now) k (v .survey .result .ok) (v .survey .result .runner) (c .up-to .result)
     (λ i. v .before .before .before .shared-slice-known .given i .fits) (tables-long k (o .0, o .1 .1))
     (said-ok day k (v .survey .ensures)) (said-runner day k (v .survey .ensures))
     (λ t. still-next k (c .up-to .ensures ∙ ap (upTo (lastInstant + 1)) (said-next day k (v .survey .ensures) t)))
@@ -95,8 +95,8 @@ plain-requires c κs = search needs
 room : (c : N) → c .before .before .loop .fill + longestLine ≤ length (c .before .before .loop .out)
 room c = fits (c .before .before .loop .inv) (c .before .loop-test .taken)
 
-less : (c : N) → length (c .before .before .before .before .before .before .before .before .args .s .now) - c .end-of .result
-    < length (c .before .before .before .before .before .before .before .before .args .s .now) - c .before .before .loop .at
+less : (c : N) → length (c .before .before .before .before .before .before .before .before .args .bytes .now) - c .end-of .result
+    < length (c .before .before .before .before .before .before .before .before .args .bytes .now) - c .before .before .loop .at
 less c = omega (arith, ahead (c .before .before .loop .inv) (c .before .loop-test .taken))
 
 line-at-requires : tie.Need-line-at-requires Inv-loop μ-loop
@@ -184,7 +184,9 @@ same-length : tie.Need-same-length Inv-loop μ-loop
 same-length c = c .before .loop .inv .long
 
 returns : tie.Need-returns Inv-loop μ-loop
-returns c = stopped (c .before .loop .inv) (c .loop-test .left)
+returns c =
+    let h = c .before in
+    stopped (h .loop .inv) (h .before .before .before .before .before .args .script) refl (c .loop-test .left)
 
 pub run-spec : {M : Type 1} → statement M
 run-spec =
