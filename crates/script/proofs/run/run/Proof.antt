@@ -186,7 +186,7 @@ same-length c = c .before .loop .inv .long
 returns : tie.Need-returns Inv-loop μ-loop
 returns c =
     let h = c .before in
-    stopped (h .loop .inv) (h .before .before .before .before .before .args .script) refl (c .loop-test .left)
+    stopped (h .loop .inv) (h .before .before .before .before .before .before .args .script) refl (c .loop-test .left)
 
 pub run-spec : {M : Type 1} → statement M
 run-spec =
