@@ -17,6 +17,7 @@ use Rattle.task.specs.State.{isKept}
 use Rattle.task.specs.declared.Task.{Task}
 use Rattle.machine.specs.declared.State.{State}
 use Rattle.machine.specs.declared.Running.the-variants.{Idle}
+use Rattle.machine.specs.Sets.{Due, Started, Ended, Lost}
 use Rattle.machine.specs.State.{taskAt, freshTask}
 use Rattle.machine.specs.Running.{runningOf, runner}
 use Rattle.machine.specs.Step.{step}
@@ -35,8 +36,8 @@ record Booked (day : ℕ) (k : State) (last : Asking) (was : Open) (rs : List (L
   ok : StateOk day (final day k rs)
   exclusive : Exclusive (final day k rs .counts .bolts) (final day k rs .locks)
   counts-same : final day k rs .counts ≡ k .counts
-  dues : (i : ℕ) → i < k .counts .tasks → bit (isKept (taskAt (k .tasks) i .kept)) + count (λ a. a .due) i (log day k rs) ≡ count (λ a. a .started) i (log day k rs) + count (λ a. a .lost) i (log day k rs) + bit (isKept (taskAt (final day k rs .tasks) i .kept))
-  starts : (i : ℕ) → i < k .counts .tasks → bit (taskAt (k .tasks) i .alive) + count (λ a. a .started) i (log day k rs) ≡ count (λ a. a .ended) i (log day k rs) + bit (taskAt (final day k rs .tasks) i .alive)
+  dues : (i : ℕ) → i < k .counts .tasks → bit (isKept (taskAt (k .tasks) i .kept)) + count Due i (log day k rs) ≡ count Started i (log day k rs) + count Lost i (log day k rs) + bit (isKept (taskAt (final day k rs .tasks) i .kept))
+  starts : (i : ℕ) → i < k .counts .tasks → bit (taskAt (k .tasks) i .alive) + count Started i (log day k rs) ≡ count Ended i (log day k rs) + bit (taskAt (final day k rs .tasks) i .alive)
   values : (v : Wait) (x : ℕ) → Law v (level v (final day k rs .locks) x) (grants (k .counts .tasks) v x (runner k) last (log day k rs)) (returned v x (log day k rs)) (level v (k .locks) x)
   opens : GrantsOpen (k .counts .tasks) (runner k) was (log day k rs)
   waits : (i : ℕ) → i < k .counts .tasks → openFrom (runner k) was (log day k rs) i ≡ waiting (taskAt (final day k rs .tasks) i .wait)
@@ -48,11 +49,7 @@ right day k last was r h d =
       tested = passes-of-ok day k h .tested;
       never-1 = d .never-1;
       lost = λ i l. d .marked i l .lost;
-      due-declared = d .declared .due;
-      started-declared = d .declared .started;
-      ended-declared = d .declared .ended;
-      lost-declared = d .declared .lost;
-      granted-declared = d .declared .granted;
+      declared = d .declared;
       begun = d .begun;
     }
 

@@ -1,5 +1,5 @@
 -- The books of each accepted call, before the waiting tasks are served.
-use mathlib.Core.Path.{_≡_, refl, _∙_}
+use mathlib.Core.Path.{_≡_, refl, ap, _∙_}
 use mathlib.Core.Logic.{_≢_}
 use mathlib.Core.Bool.{Bool, true, false}
 use mathlib.Core.List.{List}
@@ -8,7 +8,7 @@ use native.Mathlib.Omega.{arith}
 use borrow.Author.Tests.{eq-eqb, ne-eqb}
 use Rattle.record.specs.Refusals.{named}
 use Rattle.layout.specs.declared.Call.{Call}
-use Rattle.lock.specs.Locks.{waiting, level}
+use Rattle.lock.specs.Locks.{bit, waiting, level}
 use Rattle.lock.specs.declared.Way.the-variants.{Take, Give}
 use Rattle.lock.specs.declared.Wait.{Wait}
 use Rattle.lock.specs.declared.Wait.the-variants.{Nothing}
@@ -23,17 +23,16 @@ use Rattle.task.specs.declared.Task.{Task}
 use Rattle.task.specs.declared.Turn.{Turn}
 use Rattle.machine.specs.declared.State.{State}
 use Rattle.machine.specs.declared.Running.the-variants.{Runs}
-use Rattle.machine.specs.Sets.{has}
 use Rattle.machine.specs.State.{taskAt, countOf}
 use Rattle.machine.specs.Running.{runner}
 use Rattle.machine.specs.Work.{Work, changed}
 use Rattle.machine.proofs.Works.{oneTurn, onlyLocks}
-use Rattle.machine.proofs.Sets.{has-empty, has-one, has-other, pow-pos, pow-lt}
+use Rattle.machine.proofs.SetLaws.{unmarked-none, has-empty, has-one, has-other, pow-pos, pow-lt}
 use Rattle.machine.proofs.Facts.{StateOk, proper-list}
 use Rattle.machine.proofs.Done.{Role, asking, giving, Lists, Did, turned, everyone, quiet, gave, got, waits, tried, runs}
 use Rattle.balance.specs.Counting.{Named, Asking, counts, issuedBy, grantsIn}
 use Rattle.balance.proofs.Grants.{no-grants, one-grant, no-kind}
-use Rattle.balance.proofs.Works.{Marked, still-marked, only-granted, Ties, asksIf, lastIf, WorkBooks, unmoved, none-granted, at-turn, at-other, one-marked, one-declared, turned-books, every-books}
+use Rattle.balance.proofs.Works.{marked-as, still-marked, granted-marked, only-granted, Ties, asksIf, lastIf, WorkBooks, unmoved, none-granted, at-turn, at-other, one-marked, one-declared, turned-books, every-books}
 
 module _ (day : ℕ) (k : State) (h : StateOk day k) (c : Call) (last : Asking) where
   abbrev n : ℕ
@@ -41,9 +40,6 @@ module _ (day : ℕ) (k : State) (h : StateOk day k) (c : Call) (last : Asking) 
 
   abbrev t : ℕ → Task
   t i = taskAt (k .tasks) i
-
-  no-mark : (i : ℕ) → Marked false (t i) (t i) (has i 0) (has i 0) (has i 0) (has i 0)
-  no-mark i = rw has-empty (still-marked (t i) (t i) refl refl)
 
   -- No task has a turn and none asks.
   quiet-books : (w : Wait) (r : Locks) (es : List Bool)
@@ -53,7 +49,7 @@ module _ (day : ℕ) (k : State) (h : StateOk day k) (c : Call) (last : Asking) 
   unfolding onlyLocks
   quiet-books w r es v x =
       record {
-        marked = λ i l. no-mark i;
+        marked = λ i l. granted-marked (t i) i 0;
         ties = λ b. b;
         waits = λ i l. rw has-empty (simp tests);
         asked = λ i l e. none-granted i e;
@@ -100,7 +96,7 @@ module _ (day : ℕ) (k : State) (h : StateOk day k) (c : Call) (last : Asking) 
     unfolding onlyLocks
     got-books s r v x =
         record {
-          marked = λ j y. no-mark j;
+          marked = λ j y. granted-marked (t j) j (2 ^ i);
           ties = over-ties;
           waits = λ j y. byEq j i (λ e. rw (e, has-one i, unwaiting) (simp tests)) (λ e. rw (has-empty j, has-other i j e, asks-not j e) (simp tests));
           asked = λ j y e. byEq j i (λ m. rw m asks-now) (λ m. absurd (omega (arith, has-other i j m)));
@@ -114,7 +110,7 @@ module _ (day : ℕ) (k : State) (h : StateOk day k) (c : Call) (last : Asking) 
     unfolding onlyLocks
     tried-books =
         record {
-          marked = λ j y. no-mark j;
+          marked = λ j y. granted-marked (t j) j 0;
           ties = over-ties;
           waits = λ j y. rw has-empty (simp tests);
           asked = λ j y e. none-granted j e;
@@ -130,7 +126,7 @@ module _ (day : ℕ) (k : State) (h : StateOk day k) (c : Call) (last : Asking) 
         let here = at-turn day k h c i u declared in
         let there = at-other day k h c i u declared in
         record {
-          marked = λ j y. one-marked day k h c i u declared false (λ e. contra e refl) (still-marked (t i) (u .task) refl refl) j;
+          marked = λ j y. one-marked day k h c i u declared false (λ e. contra e refl) (marked-as (λ x. 0) _ (λ x. ap bit (unmarked-none x (u .task))) (still-marked (t i) (u .task) refl refl)) j;
           ties = λ b j y e. byEq j i (λ m. rw (m, here) over-same) (λ m. over-other j m ∙ rw (there j m) (b j y (rw (there j m) at e)));
           waits = λ j y. byEq j i (λ m. rw (m, here) (unfold changed in rw (has-empty i, asks-now, z) (simp tests)))
               (λ m. rw (there j m) (unfold changed in rw (has-empty j, asks-not j m) (simp tests)));

@@ -7,7 +7,7 @@ use Rattle.lock.specs.declared.Wait.{Wait}
 use Rattle.lock.specs.declared.Wait.the-variants.{Nothing, Request, Reserve, Enter}
 use Rattle.lock.proofs.Levels.{Law}
 use Rattle.machine.specs.Sets.{has, put}
-use Rattle.machine.proofs.Sets.{has-empty, has-one, has-other, has-put, has-put-other}
+use Rattle.machine.proofs.SetLaws.{has-empty, has-one, has-other, has-put, has-put-other}
 use Rattle.machine.proofs.Below.{sum-zero, sum-update}
 use Rattle.balance.specs.Counting.{Asking, counts, grantsIn}
 

@@ -19,7 +19,7 @@ use Rattle.machine.specs.Sets.{has}
 use Rattle.machine.specs.State.{taskAt}
 use Rattle.machine.specs.Granting.{servable}
 use Rattle.machine.specs.Serving.{Served, grantTo, serve}
-use Rattle.machine.proofs.Sets.{has-le, has-put, has-put-other, put-lt}
+use Rattle.machine.proofs.SetLaws.{has-le, has-put, has-put-other, put-lt}
 use Rattle.machine.proofs.Facts.{StateOk}
 use Rattle.machine.proofs.Serving.{ServedOk, served-waits, served-free, grant-at, grant-other, wanted-proper, grant-ok, serve-keeps}
 use Rattle.balance.specs.Counting.{Asking, counts, grantsIn, Open, isIn}

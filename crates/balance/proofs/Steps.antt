@@ -22,7 +22,7 @@ use Rattle.machine.specs.declared.State.{State}
 use Rattle.machine.specs.declared.Answer.{Answer}
 use Rattle.machine.specs.declared.Running.{Running}
 use Rattle.machine.specs.declared.Stepped.{Stepped}
-use Rattle.machine.specs.Sets.{has}
+use Rattle.machine.specs.Sets.{Granted, has}
 use Rattle.machine.specs.State.{taskAt}
 use Rattle.machine.specs.Running.{runner}
 use Rattle.machine.specs.Work.{Work}
@@ -31,7 +31,7 @@ use Rattle.machine.specs.Calls.{workOf}
 use Rattle.machine.specs.Step.{refuse, finish, orRefuse, carryOut, carryOn, step}
 use Rattle.machine.specs.Log.{isDeclaration}
 use Rattle.machine.specs.Invariants.{IsDay}
-use Rattle.machine.proofs.Sets.{has-empty, pow-pos}
+use Rattle.machine.proofs.SetLaws.{has-empty, pow-pos}
 use Rattle.machine.proofs.Facts.{StateOk, passes-of-ok}
 use Rattle.machine.proofs.Passed.{refusalOf, passed}
 use Rattle.machine.proofs.Opened.{opened-refused, opened-priority}
@@ -41,7 +41,7 @@ use Rattle.machine.proofs.Keeping.{begin, begin-ok, did-ok, finish-ok}
 use Rattle.balance.specs.Counting.{accepted, asks, gives, namesIn, Asking, counts, issuedBy, grantsIn, Open, isIssuer, stays, isIn}
 use Rattle.balance.specs.Balance.{prevents}
 use Rattle.balance.proofs.Grants.{moved-refl, law-moved, no-grants}
-use Rattle.balance.proofs.Works.{Ties, asksIf, lastIf, waitsNow, waitingIn, Marked, still-marked, Declared, only-granted}
+use Rattle.balance.proofs.Works.{Ties, asksIf, lastIf, waitsNow, waitingIn, Marked, granted-marked, hasIn, Declared, regranted, only-granted}
 use Rattle.balance.proofs.Calls.{did-books}
 use Rattle.balance.proofs.Serving.{served-books}
 
@@ -54,10 +54,10 @@ module _ (a : Answer) (r : Read) (l : List ℕ) (before : Running) where
   asksThen i = accepted a && waiting (namesIn asks r l .kind) && isIssuer before i
 
   abbrev pub openNow : Open → Open
-  openNow was i = (was i && not (isIn (a .ended) i)) || asksThen i
+  openNow was i = (was i && not (isIn (a .sets .ended) i)) || asksThen i
 
   abbrev pub openThen : Open → Open
-  openThen was i = ((was i && not (isIn (a .ended) i)) || (asksThen i && stays r)) && not (isIn (a .granted) i)
+  openThen was i = ((was i && not (isIn (a .sets .ended) i)) || (asksThen i && stays r)) && not (isIn (a .sets .granted) i)
 
 -- What each step keeps, besides the kernel test.
 pub record Invariant (day : ℕ) (k : State) (last : Asking) (was : Open) : Type 0 where
@@ -70,12 +70,12 @@ pub record StepBooks (day : ℕ) (k : State) (last : Asking) (was : Open) (r : R
   pub next : Invariant day (s .state) (lastThen (s .answer) r l (runner k) last) (openThen (s .answer) r l (runner k) was)
   pub counts-same : s .state .counts ≡ k .counts
   pub runs : s .answer .running ≡ runner (s .state)
-  pub marked : (i : ℕ) → i < k .counts .tasks → Marked (accepted (s .answer) && prevents r i) (taskAt (k .tasks) i) (taskAt (s .state .tasks) i) (has i (s .answer .due)) (has i (s .answer .started)) (has i (s .answer .ended)) (has i (s .answer .lost))
-  pub values : (v : Wait) (x : ℕ) → Law v (level v (s .state .locks) x) (grantsIn (k .counts .tasks) v x (lastThen (s .answer) r l (runner k) last) (s .answer .granted)) (bit (accepted (s .answer)) * counts v x (namesIn gives r l)) (level v (k .locks) x)
-  pub grants : (i : ℕ) → i < k .counts .tasks → has i (s .answer .granted) ≡ 1 → openNow (s .answer) r l (runner k) was i ≡ true
+  pub marked : (i : ℕ) → i < k .counts .tasks → Marked (accepted (s .answer) && prevents r i) (taskAt (k .tasks) i) (taskAt (s .state .tasks) i) (hasIn i (s .answer .sets))
+  pub values : (v : Wait) (x : ℕ) → Law v (level v (s .state .locks) x) (grantsIn (k .counts .tasks) v x (lastThen (s .answer) r l (runner k) last) (s .answer .sets .granted)) (bit (accepted (s .answer)) * counts v x (namesIn gives r l)) (level v (k .locks) x)
+  pub grants : (i : ℕ) → i < k .counts .tasks → has i (s .answer .sets .granted) ≡ 1 → openNow (s .answer) r l (runner k) was i ≡ true
   pub never-1 : s .answer .number ≢ 1
   pub begun : s .state .begun ≡ (k .begun || accepted (s .answer))
-  pub declared : Declared (k .counts .tasks) (s .answer .due) (s .answer .started) (s .answer .ended) (s .answer .lost) (s .answer .granted)
+  pub declared : Declared (k .counts .tasks) (s .answer .sets)
 
 or-more : (a b c : Bool) → (a || (b && c)) ≡ true → (a || b) ≡ true
 or-more true b c e = refl
@@ -100,7 +100,7 @@ module _ (day : ℕ) (isDay : IsDay day) (k : State) (last : Asking) (was : Open
             };
         counts-same = refl;
         runs = refl;
-        marked = λ i q. rw (no, has-empty i) (still-marked (taskAt (k .tasks) i) (taskAt (k .tasks) i) refl refl);
+        marked = λ i q. rw no (granted-marked (taskAt (k .tasks) i) i 0);
         values = λ v x. rw (no, no-grants n v x last) (zeros v x (counts v x (namesIn gives r l)));
         grants = λ i q e. absurd (omega (arith, has-empty i));
         never-1 = ne;
@@ -121,18 +121,18 @@ module _ (day : ℕ) (isDay : IsDay day) (k : State) (last : Asking) (was : Open
         let b = did-books day k (h .ok) c last did in
         let o = did-ok day k (h .ok) did in
         let p = begin day k (h .ok) w in
-        let before : Open = waitsNow r (runner k) (waitingIn k) (w .ended) in
-        let asking : Open = λ i. (waitingIn k i && not (isIn (w .ended) i)) || asksIf (r .asks) (runner k) i in
-        let s = served-books day k (h .ok) last′ before asking (λ i. or-more (waitingIn k i && not (isIn (w .ended) i)) (asksIf (r .asks) (runner k) i) (r .stays)) p
+        let before : Open = waitsNow r (runner k) (waitingIn k) (w .sets .ended) in
+        let asking : Open = λ i. (waitingIn k i && not (isIn (w .sets .ended) i)) || asksIf (r .asks) (runner k) i in
+        let s = served-books day k (h .ok) last′ before asking (λ i. or-more (waitingIn k i && not (isIn (w .sets .ended) i)) (asksIf (r .asks) (runner k) i) (r .stays)) p
         (record {
           ok = begin-ok day k (h .ok) w o;
           kept-same = λ i. refl;
           alive-same = λ i. refl;
           ties = b .ties (h .ties);
           waits = b .waits;
-          asked = λ i q e. or-right (waitingIn k i && not (isIn (w .ended) i)) (asksIf (r .asks) (runner k) i) (b .asked i q e);
-          granted-lt = b .declared .granted;
-          values = λ v x. moved-refl v (level v (w .locks) x) (grantsIn n v x last′ (w .granted));
+          asked = λ i q e. or-right (waitingIn k i && not (isIn (w .sets .ended) i)) (asksIf (r .asks) (runner k) i) (b .asked i q e);
+          granted-lt = b .declared Granted;
+          values = λ v x. moved-refl v (level v (w .locks) x) (grantsIn n v x last′ (w .sets .granted));
           exclusive = b .exclusive (h .exclusive);
         }) in
         record {
@@ -155,9 +155,7 @@ module _ (day : ℕ) (isDay : IsDay day) (k : State) (last : Asking) (was : Open
           grants = λ i q e. rw (h .opens i q) (s .asked i q e);
           never-1 = λ z. omega arith;
           begun = simp tests;
-          declared =
-              let m = b .declared in
-              record { due = m .due; started = m .started; ended = m .ended; lost = m .lost; granted = s .granted-lt };
+          declared = regranted n (w .sets) _ (b .declared) (s .granted-lt);
         }
 
     carry-books : d .priority < 256 → not (accepted (carryOn day k (callWith d l) .answer) && declares (d .mark)) ≡ true → StepBooks day k last was (Accepted d) l (carryOn day k (callWith d l))

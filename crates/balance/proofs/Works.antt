@@ -2,7 +2,7 @@
 use mathlib.Core.Path.{_≡_, refl, sym, ap, _∙_}
 use mathlib.Core.Logic.{_≢_}
 use mathlib.Core.Bool.{Bool, true, false, not, cond, _&&_, _||_}
-use mathlib.Core.List.{List}
+use mathlib.Core.List.{List, map}
 use Prim.Native.Nat.{ℕ, _+_, _^_, _<_}
 use native.Mathlib.Omega.{arith}
 use lib.Dec.{eqb}
@@ -23,41 +23,66 @@ use Rattle.task.specs.declared.Turn.{Turn}
 use Rattle.task.specs.Promises.{Fair}
 use Rattle.machine.specs.declared.State.{State}
 use Rattle.machine.specs.declared.Running.{Running}
-use Rattle.machine.specs.Sets.{has}
+use Rattle.machine.specs.Sets.{Set, Due, Started, Ended, Lost, Granted, has, only, setOf, mark, members, noSets, withGranted}
+use Rattle.machine.specs.declared.Sets.{Sets}
 use Rattle.machine.specs.State.{taskAt}
 use Rattle.machine.specs.Running.{runner}
-use Rattle.machine.specs.Work.{Work, changed, everyTurn}
-use Rattle.machine.proofs.Sets.{has-empty, has-only, has-only-other, pow-pos, only-lt}
+use Rattle.machine.specs.Work.{Work, changed, turns, everyTurn}
+use Rattle.machine.proofs.SetLaws.{members-each, no-members, has-empty, has-only, has-only-other, pow-pos, only-lt}
 use Rattle.machine.proofs.Facts.{StateOk, task-room}
-use Rattle.machine.proofs.Works.{oneTurn, turn-at, set-at, set-lt}
+use Rattle.machine.proofs.Works.{oneTurn, turn-at, set-at, set-lt, set-none}
 use Rattle.machine.proofs.Done.{Role, plain}
 use Rattle.balance.specs.Counting.{Named, Asking, counts, issuedBy, grantsIn, Open, isIssuer, isIn}
 use Rattle.balance.proofs.Grants.{no-grants, no-kind}
 
--- One task, by the sets that have it; p: a PREVENT of it.
-pub record Marked (p : Bool) (t t′ : Task) (d s e l : ℕ) : Type 0 where
-  pub starts : bit (isKept (t .kept)) + d ≡ s + l + bit (isKept (t′ .kept))
-  pub ends : bit (t .alive) + s ≡ e + bit (t′ .alive)
-  pub lost : l ≡ bit (isKept (t .kept) && ((eqb d 1 && t .alive) || p))
+-- One task, by how often each set has it; p: a PREVENT of it.
+pub record Marked (p : Bool) (t t′ : Task) (m : Set → ℕ) : Type 0 where
+  pub starts : bit (isKept (t .kept)) + m Due ≡ m Started + m Lost + bit (isKept (t′ .kept))
+  pub ends : bit (t .alive) + m Started ≡ m Ended + bit (t′ .alive)
+  pub lost : m Lost ≡ bit (isKept (t .kept) && ((eqb (m Due) 1 && t .alive) || p))
 
-fair-marked : (p : Bool) (t : Task) (u : Turn) → Fair p t u → Marked p t (u .task) (bit (u .due)) (bit (u .started)) (bit (u .ended)) (bit (u .lost))
+pub marked-as : {p : Bool} {t t′ : Task} (m m′ : Set → ℕ) → ((x : Set) → m′ x ≡ m x) → Marked p t t′ m → Marked p t t′ m′
+marked-as m m′ e h =
+    record {
+      starts = rw (e Due, e Started, e Lost) (h .starts);
+      ends = rw (e Started, e Ended) (h .ends);
+      lost = rw (e Due, e Lost) (h .lost);
+    }
+
+abbrev pub marksBits : Turn → Set → ℕ
+marksBits u x = bit (mark x (u .marks))
+
+fair-marked : (p : Bool) (t : Task) (u : Turn) → Fair p t u → Marked p t (u .task) (marksBits u)
 fair-marked p t u f =
-    record { starts = f .starts; ends = f .ends; lost = rw (eqb-bit (u .due)) (ap bit (f .lost)) }
+    record { starts = f .starts; ends = f .ends; lost = rw (eqb-bit (u .marks .due)) (ap bit (f .lost)) }
 
 -- A task in no set.
-pub still-marked : (t t′ : Task) → t′ .kept ≡ t .kept → t′ .alive ≡ t .alive → Marked false t t′ 0 0 0 0
+pub still-marked : (t t′ : Task) → t′ .kept ≡ t .kept → t′ .alive ≡ t .alive → Marked false t t′ (λ x. 0)
 still-marked t t′ k a = record { starts = rw k (omega arith); ends = rw a (omega arith); lost = simp tests }
 
--- The five sets name the first n tasks only.
-pub record Declared (n d s e l g : ℕ) : Type 0 where
-  pub due : d < 2 ^ n
-  pub started : s < 2 ^ n
-  pub ended : e < 2 ^ n
-  pub lost : l < 2 ^ n
-  pub granted : g < 2 ^ n
+-- How often each set has task i.
+abbrev pub hasIn : ℕ → Sets → Set → ℕ
+hasIn i s x = has i (members x s)
 
-pub only-granted : (n g : ℕ) → g < 2 ^ n → Declared n 0 0 0 0 g
-only-granted n g h = record { due = pow-pos n; started = pow-pos n; ended = pow-pos n; lost = pow-pos n; granted = h }
+-- At most granted.
+pub granted-marked : (t : Task) (i g : ℕ) → Marked false t t (hasIn i (withGranted g noSets))
+granted-marked t i g =
+    let s = still-marked t t refl refl in
+    record { starts = rw (has-empty i) (s .starts); ends = rw (has-empty i) (s .ends); lost = rw (has-empty i) (s .lost) }
+
+-- The five sets name the first n tasks only.
+abbrev pub Declared : ℕ → Sets → Type 0
+Declared n s = (x : Set) → members x s < 2 ^ n
+
+pub regranted : (n : ℕ) (s : Sets) (g : ℕ) → Declared n s → g < 2 ^ n → Declared n (withGranted g s)
+regranted n s g d h Due = d Due
+regranted n s g d h Started = d Started
+regranted n s g d h Ended = d Ended
+regranted n s g d h Lost = d Lost
+regranted n s g d h Granted = h
+
+pub only-granted : (n g : ℕ) → g < 2 ^ n → Declared n (withGranted g noSets)
+only-granted n g h = regranted n noSets g (λ x. rw (no-members x) (pow-pos n)) h
 
 -- What a task waits for.
 abbrev pub askedBy : Task → Named
@@ -83,15 +108,15 @@ waitingIn k i = waiting (taskAt (k .tasks) i .wait)
 
 pub record WorkBooks (k : State) (c : Call) (r : Role) (last last′ : Asking) (w : Work) : Type 0 where
   pub marked : (i : ℕ) → i < k .counts .tasks
-      → Marked (r .prevents && eqb (c .head .number) i) (taskAt (k .tasks) i) (taskAt (w .tasks) i) (has i (w .due)) (has i (w .started)) (has i (w .ended)) (has i (w .lost))
+      → Marked (r .prevents && eqb (c .head .number) i) (taskAt (k .tasks) i) (taskAt (w .tasks) i) (hasIn i (w .sets))
   pub ties : Ties (k .counts .tasks) (k .tasks) last → Ties (k .counts .tasks) (w .tasks) last′
   pub waits : (i : ℕ) → i < k .counts .tasks
-      → waiting (taskAt (w .tasks) i .wait) ≡ (waitsNow r (runner k) (waitingIn k) (w .ended) i && not (isIn (w .granted) i))
-  pub asked : (i : ℕ) → i < k .counts .tasks → has i (w .granted) ≡ 1 → asksIf (r .asks) (runner k) i ≡ true
+      → waiting (taskAt (w .tasks) i .wait) ≡ (waitsNow r (runner k) (waitingIn k) (w .sets .ended) i && not (isIn (w .sets .granted) i))
+  pub asked : (i : ℕ) → i < k .counts .tasks → has i (w .sets .granted) ≡ 1 → asksIf (r .asks) (runner k) i ≡ true
   pub values : (v : Wait) (x : ℕ)
-      → Law v (level v (w .locks) x) (grantsIn (k .counts .tasks) v x last′ (w .granted)) (counts v x (record { kind = r .gives; list = named c })) (level v (k .locks) x)
+      → Law v (level v (w .locks) x) (grantsIn (k .counts .tasks) v x last′ (w .sets .granted)) (counts v x (record { kind = r .gives; list = named c })) (level v (k .locks) x)
   pub exclusive : Exclusive (k .counts .bolts) (k .locks) → Exclusive (k .counts .bolts) (w .locks)
-  pub declared : Declared (k .counts .tasks) (w .due) (w .started) (w .ended) (w .lost) (w .granted)
+  pub declared : Declared (k .counts .tasks) (w .sets)
 
 -- Nothing granted and nothing given back.
 pub unmoved : (k : State) (l : List ℕ) (last : Asking) (v : Wait) (x : ℕ)
@@ -125,17 +150,24 @@ module _ (day : ℕ) (k : State) (h : StateOk day k) (c : Call) where
     unfolding changed
     at-other j ne = getD-set-other (k .tasks) i j (u .task) noTask ne
 
-    pub one-marked : (p : Bool) → (p ≡ true → c .head .number ≡ i) → Marked p (t i) (u .task) (bit (u .due)) (bit (u .started)) (bit (u .ended)) (bit (u .lost)) → (j : ℕ)
-        → Marked (p && eqb (c .head .number) j) (t j) (taskAt (oneTurn k i u .tasks) j) (has j (oneTurn k i u .due)) (has j (oneTurn k i u .started)) (has j (oneTurn k i u .ended)) (has j (oneTurn k i u .lost))
+    has-here : (x : Set) → hasIn i (oneTurn k i u .sets) x ≡ marksBits u x
+    unfolding changed
+    has-here x = rw (members-each x (λ y. only i (mark y (u .marks)))) (has-only i (mark x (u .marks)))
+
+    has-there : (j : ℕ) → j ≢ i → (x : Set) → hasIn j (oneTurn k i u .sets) x ≡ 0
+    unfolding changed
+    has-there j e x = rw (members-each x (λ y. only i (mark y (u .marks)))) (has-only-other i j (mark x (u .marks)) e)
+
+    pub one-marked : (p : Bool) → (p ≡ true → c .head .number ≡ i) → Marked p (t i) (u .task) (marksBits u) → (j : ℕ)
+        → Marked (p && eqb (c .head .number) j) (t j) (taskAt (oneTurn k i u .tasks) j) (hasIn j (oneTurn k i u .sets))
     one-marked p f m j =
         byEq j i
-        (λ e. rw (e, prevents-at p (c .head .number) i f, at-turn) (unfold changed in rw (has-only i (u .due), has-only i (u .started), has-only i (u .ended), has-only i (u .lost)) m))
-        (λ e. rw (prevents-other p (c .head .number) i j f e, at-other j e)
-        (unfold changed in rw (has-only-other i j (u .due) e, has-only-other i j (u .started) e, has-only-other i j (u .ended) e, has-only-other i j (u .lost) e) (still-marked (t j) (t j) refl refl)))
+        (λ e. rw (e, prevents-at p (c .head .number) i f, at-turn) (marked-as (marksBits u) _ has-here m))
+        (λ e. rw (prevents-other p (c .head .number) i j f e, at-other j e) (marked-as (λ x. 0) _ (has-there j e) (still-marked (t j) (t j) refl refl)))
 
-    pub one-declared : Declared n (oneTurn k i u .due) (oneTurn k i u .started) (oneTurn k i u .ended) (oneTurn k i u .lost) (oneTurn k i u .granted)
+    pub one-declared : Declared n (oneTurn k i u .sets)
     unfolding changed
-    one-declared = record { due = only-lt n i (u .due) l; started = only-lt n i (u .started) l; ended = only-lt n i (u .ended) l; lost = only-lt n i (u .lost) l; granted = pow-pos n }
+    one-declared x = rw (members-each x (λ y. only i (mark y (u .marks)))) (only-lt n i (mark x (u .marks)) l)
 
     -- A turn of one task.
     pub turned-books : (last : Asking) (p : Bool) → (p ≡ true → c .head .number ≡ i) → Fair p (t i) u → WorkBooks k c (plain p) last last (oneTurn k i u)
@@ -146,10 +178,10 @@ module _ (day : ℕ) (k : State) (h : StateOk day k) (c : Call) where
               (λ e. let z = rw (e, at-turn) at w in let y = g .wants z in rw (e, at-turn, y .0, y .1) (b i l (rw (y .0) at z)))
               (λ e. rw (at-other j e) (b j q (rw (at-other j e) at w)));
           waits = λ j q. byEq j i
-              (λ e. rw (e, at-turn, g .waits) (unfold changed in rw (has-only i (u .ended), has-empty i, eqb-bit (u .ended)) (simp tests)))
-              (λ e. rw (at-other j e) (unfold changed in rw (has-only-other i j (u .ended) e, has-empty j) (simp tests)));
-          asked = unfold changed in λ j q e. none-granted j e;
-          values = unfold changed in unmoved k (named c) last;
+              (λ e. rw (e, at-turn, g .waits) (unfold changed in rw (g .granted, has-only i (u .marks .ended), has-empty i, eqb-bit (u .marks .ended)) (simp tests)))
+              (λ e. rw (at-other j e) (unfold changed in rw (g .granted, has-only-other i j (u .marks .ended) e, has-empty j) (simp tests)));
+          asked = unfold changed in rw (g .granted) (λ j q e. none-granted j e);
+          values = unfold changed in rw (g .granted) (unmoved k (named c) last);
           exclusive = unfold changed in λ e. e;
           declared = one-declared;
         }
@@ -159,16 +191,16 @@ module _ (day : ℕ) (k : State) (h : StateOk day k) (c : Call) where
   unfolding everyTurn
   every-books last m f g =
       let room = task-room day k h in
+      let none = set-none n f (k .tasks) room (λ u. u .marks .granted) (λ i l. g i l .granted) in
       record {
-        marked = λ i l. rw (turn-at n f (k .tasks) room i l, set-at n f (k .tasks) room (λ u. u .due) i l, set-at n f (k .tasks) room (λ u. u .started) i l, set-at n f (k .tasks) room (λ u. u .ended) i l, set-at n f (k .tasks) room (λ u. u .lost) i l)
-            (fair-marked false (t i) (f (t i)) (g i l));
+        marked = λ i l. rw (turn-at n f (k .tasks) room i l) (marked-as (marksBits (f (t i))) _ (λ x. rw (members-each x (λ y. setOf (map (λ u. mark y (u .marks)) (turns n f (k .tasks))))) (set-at n f (k .tasks) room (λ u. mark x (u .marks)) i l)) (fair-marked false (t i) (f (t i)) (g i l)));
         ties = λ b i l w.
             let z = rw (turn-at n f (k .tasks) room i l) at w in
             let y = g i l .wants z in
             rw (turn-at n f (k .tasks) room i l, y .0, y .1) (b i l (rw (y .0) at z));
-        waits = λ i l. rw (turn-at n f (k .tasks) room i l, g i l .waits, set-at n f (k .tasks) room (λ u. u .ended) i l, has-empty i, eqb-bit (f (t i) .ended)) (simp tests);
-        asked = λ i l e. none-granted i e;
-        values = unmoved k (named c) last;
+        waits = λ i l. rw (turn-at n f (k .tasks) room i l, g i l .waits, set-at n f (k .tasks) room (λ u. u .marks .ended) i l, none, has-empty i, eqb-bit (f (t i) .marks .ended)) (simp tests);
+        asked = rw none (λ i l e. none-granted i e);
+        values = rw none (unmoved k (named c) last);
         exclusive = λ e. e;
-        declared = record { due = set-lt n f (k .tasks) room (λ u. u .due); started = set-lt n f (k .tasks) room (λ u. u .started); ended = set-lt n f (k .tasks) room (λ u. u .ended); lost = set-lt n f (k .tasks) room (λ u. u .lost); granted = pow-pos n };
+        declared = λ x. rw (members-each x (λ y. setOf (map (λ u. mark y (u .marks)) (turns n f (k .tasks))))) (set-lt n f (k .tasks) room (λ u. mark x (u .marks)));
       }

@@ -14,7 +14,7 @@ use Rattle.record.specs.declared.Read.the-variants.{Refused, Accepted}
 use Rattle.lock.specs.Locks.{bit, waiting, level}
 use Rattle.lock.specs.declared.Wait.the-variants.{Request, Reserve, Enter}
 use Rattle.task.specs.State.{isKept}
-use Rattle.machine.specs.Sets.{has}
+use Rattle.machine.specs.Sets.{Set, Due, Started, Ended, Lost, has, members}
 use Rattle.machine.specs.State.{taskAt, nothing}
 use Rattle.machine.specs.Granting.{servable}
 use Rattle.machine.specs.Test.{valid}
@@ -32,11 +32,11 @@ use Rattle.balance.specs.Fresh.{AllOctets, Fresh, acceptedDeclaration, a
 pub record Sums (k : State) (es : List Entry) (z : State) : Type 0 where
   -- dues = starts + losses + the one kept back
   pub dues : (i : ℕ) → i < k .counts .tasks
-      → count (λ a. a .due) i es
-      ≡ count (λ a. a .started) i es + count (λ a. a .lost) i es + bit (isKept (taskAt (z .tasks) i .kept))
+      → count Due i es
+      ≡ count Started i es + count Lost i es + bit (isKept (taskAt (z .tasks) i .kept))
   -- starts = ends + the one alive
   pub starts : (i : ℕ) → i < k .counts .tasks
-      → count (λ a. a .started) i es ≡ count (λ a. a .ended) i es + bit (taskAt (z .tasks) i .alive)
+      → count Started i es ≡ count Ended i es + bit (taskAt (z .tasks) i .alive)
   -- value + grants = preset + releases
   pub values : (s : ℕ) → s < k .counts .semaphores
       → level Request (z .locks) s + granted (k .counts .tasks) Request s es
@@ -68,20 +68,16 @@ prevents (Accepted h) i = is (h .mark) PR && eqb (h .number) i
 abbrev pub loses : State → List ℕ → Answer → ℕ → Bool
 loses k r a i =
     isKept (taskAt (k .tasks) i .kept)
-    && ((eqb (has i (a .due)) 1 && taskAt (k .tasks) i .alive) || (accepted a && prevents (opened r .answer) i))
+    && ((eqb (has i (a .sets .due)) 1 && taskAt (k .tasks) i .alive) || (accepted a && prevents (opened r .answer) i))
 
 pub record RightStep (day : ℕ) (k : State) (r : List ℕ) (a : Answer) (z : State) : Type 0 where
   -- every kernel on the way passes the kernel test, so refusal 1 never arises
   pub tested : valid day k ≡ true
   pub never-1 : a .number ≢ 1
   -- lost exactly when the rule says so
-  pub lost : (i : ℕ) → i < k .counts .tasks → has i (a .lost) ≡ bit (loses k r a i)
+  pub lost : (i : ℕ) → i < k .counts .tasks → has i (a .sets .lost) ≡ bit (loses k r a i)
   -- sets name declared tasks only
-  pub due-declared : a .due < 2 ^ k .counts .tasks
-  pub started-declared : a .started < 2 ^ k .counts .tasks
-  pub ended-declared : a .ended < 2 ^ k .counts .tasks
-  pub lost-declared : a .lost < 2 ^ k .counts .tasks
-  pub granted-declared : a .granted < 2 ^ k .counts .tasks
+  pub declared : (x : Set) → members x (a .sets) < 2 ^ k .counts .tasks
   -- a call was accepted after this record exactly when one was before or is now
   pub begun : z .begun ≡ (k .begun || accepted a)
 

@@ -13,7 +13,7 @@ use Rattle.record.specs.declared.Read.the-variants.{Refused, Accepted}
 use Rattle.lock.specs.Locks.{bit, waiting, sameKind}
 use Rattle.lock.specs.declared.Wait.{Wait}
 use Rattle.lock.specs.declared.Wait.the-variants.{Nothing}
-use Rattle.machine.specs.Sets.{has}
+use Rattle.machine.specs.Sets.{Set, has, members}
 use Rattle.machine.specs.Sums.{sumBelow}
 use Rattle.machine.specs.Sorts.{sortOf, askedKind, staying, givenKind}
 use Rattle.machine.specs.Log.{Entry}
@@ -21,10 +21,10 @@ use Rattle.machine.specs.declared.Answer.{Answer}
 use Rattle.machine.specs.declared.Running.{Running}
 use Rattle.machine.specs.declared.Running.the-variants.{Idle, Runs}
 
--- How many answers have task i in the set that f reads.
-unfoldable pub count : (Answer → ℕ) → ℕ → List Entry → ℕ
-count f i [] = 0
-count f i (e ∷ es) = has i (f (e .answer)) + count f i es
+-- How many answers have task i in a set.
+unfoldable pub count : Set → ℕ → List Entry → ℕ
+count x i [] = 0
+count x i (e ∷ es) = has i (members x (e .answer .sets)) + count x i es
 
 abbrev pub accepted : Answer → Bool
 accepted a = eqb (a .number) 0
@@ -89,7 +89,7 @@ grantsIn n v x last set = sumBelow n (λ i. has i set * counts v x (last i))
 unfoldable pub grants : ℕ → Wait → ℕ → Running → Asking → List Entry → ℕ
 grants n v x before last [] = 0
 grants n v x before last (e ∷ es) =
-    grantsIn n v x (askedAfter before e last) (e .answer .granted)
+    grantsIn n v x (askedAfter before e last) (e .answer .sets .granted)
     + grants n v x (e .answer .running) (askedAfter before e last) es
 
 -- Nobody runs and nobody has asked before the first record.
@@ -123,19 +123,19 @@ isIn set i = eqb (has i set) 1
 
 -- Open where the grants of an answer are made: open before and not ended in it, or asked for with this record.
 unfoldable pub openAt : Running → Entry → Open → Open
-openAt before e was i = (was i && not (isIn (e .answer .ended) i)) || asksNow before e i
+openAt before e was i = (was i && not (isIn (e .answer .sets .ended) i)) || asksNow before e i
 
 -- Open after an answer. A TRY is open in its own answer only.
 unfoldable pub openAfter : Running → Entry → Open → Open
 openAfter before e was i =
-    ((was i && not (isIn (e .answer .ended) i)) || (asksNow before e i && stays (opened (e .bytes) .answer)))
-    && not (isIn (e .answer .granted) i)
+    ((was i && not (isIn (e .answer .sets .ended) i)) || (asksNow before e i && stays (opened (e .bytes) .answer)))
+    && not (isIn (e .answer .sets .granted) i)
 
 -- Each granted mark of n tasks belongs to an open asking: over a log, after an answer with the running task before.
 unfoldable pub GrantsOpen : ℕ → Running → Open → List Entry → Type 0
 GrantsOpen n before was [] = Unit {0}
 GrantsOpen n before was (e ∷ es) =
-    ((i : ℕ) → i < n → has i (e .answer .granted) ≡ 1 → openAt before e was i ≡ true)
+    ((i : ℕ) → i < n → has i (e .answer .sets .granted) ≡ 1 → openAt before e was i ≡ true)
     × GrantsOpen n (e .answer .running) (openAfter before e was) es
 
 -- What is open after a log.

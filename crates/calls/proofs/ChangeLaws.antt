@@ -2,7 +2,8 @@
 use mathlib.Core.Path.{_≡_, refl, sym, ap, _∙_}
 use mathlib.Core.Bool.{Bool, true, false, not, _||_}
 use mathlib.Core.List.{List}
-use Prim.Native.Nat.{ℕ, _<_}
+use Prim.Native.Nat.{ℕ, _^_, _<_}
+use lib.Bits.{or-zero-l}
 use lib.Dec.{ltb}
 use lib.ListN.{set}
 use borrow.Author.Tests.{ltb-true}
@@ -36,14 +37,29 @@ use Rattle.machine.proofs.Urgency.{Below, runner-below}
 use Rattle.machine.proofs.Passed.{unrefused}
 use Rattle.machine.proofs.Sorts.{listing, given-waits}
 use Rattle.machine.proofs.WorkPairs.{no-wait-named, no-wait-runner}
-use Rattle.survey.specs.Looks.{waitsOk}
-use Rattle.serving.specs.declared.ends.Marks.{Marks}
+use Rattle.survey.specs.Looks.{putIf, putMarks, waitsOk}
+use Rattle.machine.specs.Sets.{only, mark, noSets, onlyIn}
+use Rattle.machine.specs.declared.Sets.{Sets}
+use Rattle.machine.proofs.SetLaws.{members-each, each-same}
+use Rattle.task.specs.declared.Marks.{Marks}
 use Rattle.serving.specs.Ends.{workHere}
 use Rattle.refusals.specs.Inner.{aboutOne, ticking}
-use Rattle.calls.specs.Inner.{Returnable, marksBy}
+use Rattle.calls.specs.Inner.{Returnable}
 use Rattle.calls.proofs.AskLaws.{wait-begins}
 use Rattle.calls.proofs.TurnCases.{wait-stays, wait-at, waits-changed, sound}
 use Rattle.calls.proofs.CallLaws.{past, named-once, settled-call}
+
+-- ---- the first task in the sets
+
+put-first-if : (i : ℕ) (b : Bool) → putIf i b 0 ≡ only i b
+put-first-if i true = or-zero-l (2 ^ i)
+put-first-if i false = refl
+
+put-first : (i : ℕ) (m : Marks) → putMarks i m noSets ≡ onlyIn i m
+put-first i m =
+    each-same _ _ (λ x. ap (putIf i (mark x m)) (members-each x (λ y. 0)) ∙ put-first-if i (mark x m))
+
+-- ---- sorts
 
 -- What is neither a declaration nor about one task nor a tick is about an interrupt.
 pub interrupt-left : (s : Sort) → declaring s ≡ false → aboutOne s ≡ false → ticking s ≡ false → s ≡ AnInterrupt
@@ -142,12 +158,13 @@ module _ (day : ℕ) (k : State) (h : Head) (l : List ℕ) (v : valid day k ≡ 
         waits-changed k (sound day k v .waits) i (d .task) (d .locks)
         (rw done (waits-kept s (sym q) a (rw q (unrefused (h .mark) call (runner k) _ (k .locks) (k .now) z .runs))))
 
-    finish-change : finish (withChange k i d) (workHere (withChange k i d) (marksBy i d)) ≡ finish k (changed k i d)
+    finish-change : finish (withChange k i d) (workHere (withChange k i d) (onlyIn i (d .marks))) ≡ finish k (changed k i d)
     unfolding finish changed
     finish-change = refl
 
-    pub change-done : declares (h .mark) ≡ false → {m : Marks} → m ≡ marksBy i d → finish (withChange k i d) (workHere (withChange k i d) m) ≡ settle day k call
-    change-done b m =
-        ap (λ x. finish (withChange k i d) (workHere (withChange k i d) x)) m ∙ finish-change
+    pub change-done : declares (h .mark) ≡ false → {e : Sets} → e ≡ noSets → {s : Sets} → s ≡ putMarks i (d .marks) e
+        → finish (withChange k i d) (workHere (withChange k i d) s) ≡ settle day k call
+    change-done b n m =
+        ap (λ x. finish (withChange k i d) (workHere (withChange k i d) x)) (m ∙ ap (putMarks i (d .marks)) n ∙ put-first i (d .marks)) ∙ finish-change
         ∙ ap (λ x. finish k (changed k x d)) e ∙ ap (λ x. finish k (changed k (placeOf s h (runner k)) x)) done
         ∙ ap (finish k) (work-one s a) ∙ settled-call day k h l b z q

@@ -21,7 +21,7 @@ use Rattle.task.specs.Turns.{unmarked, triggerTurn}
 use Rattle.task.specs.declared.Task.{Task}
 use Rattle.task.specs.declared.Turn.{Turn}
 use Rattle.task.proofs.Waits.{NoNewWait}
-use Rattle.machine.specs.Sets.{setOf}
+use Rattle.machine.specs.Sets.{setOf, mark, eachSet, noSets}
 use Rattle.machine.specs.State.{mostTasks, taskAt, enabledAt, withState, begunAt}
 use Rattle.machine.specs.Work.{onlyEnabled, turns, everyTurn}
 use Rattle.machine.specs.Running.{runner, runningOf}
@@ -37,11 +37,11 @@ use Rattle.machine.proofs.Facts.{TaskOk, task-test, task-untest, nobody-untest}
 use Rattle.machine.proofs.Granting.{could-locks}
 use Rattle.machine.proofs.Passed.{parts, tested}
 use Rattle.machine.proofs.Works.{turn-at}
-use Rattle.machine.proofs.Sets.{setOf-lt}
+use Rattle.machine.proofs.SetLaws.{members-each, each-same, setOf-lt}
 use Rattle.survey.proofs.TestLaws.{wait-of}
-use Rattle.survey.specs.Looks.{putIf, waitsOk}
-use Rattle.serving.specs.Ends.{marksOf, served, workHere, servedOf, noMarks, answerOf}
-use Rattle.serving.specs.declared.ends.Marks.{Marks}
+use Rattle.survey.specs.Looks.{putIf, putMarks, waitsOk}
+use Rattle.serving.specs.Ends.{served, workHere, servedOf, answerOf}
+use Rattle.machine.specs.declared.Sets.{Sets}
 use Rattle.calls.proofs.TurnCases.{sound}
 use Rattle.machine.specs.declared.Running.{Running}
 use Rattle.machine.specs.declared.Running.the-variants.{Idle}
@@ -101,71 +101,59 @@ module _ (f : Task → Turn) where
       ∙ put-more (map g (turns i f ts)) (g (f (taskAt ts i)))
       ∙ ap setOf (sym (bits-more g i ts h))
 
-  abbrev pub marksAfter : ℕ → List Task → Marks
-  marksAfter i ts =
-      record {
-        due = setAfter (λ u. u .due) i ts;
-        started = setAfter (λ u. u .started) i ts;
-        ended = setAfter (λ u. u .ended) i ts;
-        lost = setAfter (λ u. u .lost) i ts;
-        granted = 0;
-      }
+  abbrev pub setsAfter : ℕ → List Task → Sets
+  setsAfter i ts = eachSet (λ x. setAfter (λ u. mark x (u .marks)) i ts)
 
--- The sets with the turn u of task i.
-abbrev pub withTurn : ℕ → Turn → Marks → Marks
-withTurn i u m =
-    record {
-      due = putIf i (u .due) (m .due);
-      started = putIf i (u .started) (m .started);
-      ended = putIf i (u .ended) (m .ended);
-      lost = putIf i (u .lost) (m .lost);
-      granted = m .granted;
-    }
+  sets-after-more : (i : ℕ) (ts : List Task) → i < length ts → putMarks i (f (taskAt ts i) .marks) (setsAfter i ts) ≡ setsAfter (suc i) ts
+  sets-after-more i ts h =
+      each-same _ _
+      (λ x. ap (putIf i (mark x (f (taskAt ts i) .marks))) (members-each x (λ y. setAfter (λ u. mark y (u .marks)) i ts))
+      ∙ set-after-more (λ u. mark x (u .marks)) i ts h)
 
--- The turns f of the first i tasks of the kernel k have made the kernel `next` and the sets m.
-pub record Made (f : Task → Turn) (k : State) (i : ℕ) (next : State) (m : Marks) : Type 0 where
+-- The turns f of the first i tasks of the kernel k have made the kernel `next` and the sets s.
+pub record Made (f : Task → Turn) (k : State) (i : ℕ) (next : State) (s : Sets) : Type 0 where
   pub state : next ≡ withState (tasksAfter f i (k .tasks)) (k .locks) (k .enabled) k
-  pub marks : m ≡ marksAfter f i (k .tasks)
+  pub sets : s ≡ setsAfter f i (k .tasks)
 
 module _ (f : Task → Turn) (k : State) where
-  pub made-none : Made f k 0 k noMarks
+  pub made-none : Made f k 0 k noSets
   unfolding tasksAfter setAfter setOf
-  made-none = record { state = refl; marks = refl }
+  made-none = record { state = refl; sets = refl }
 
-  pub made-all : {i : ℕ} {next : State} {m : Marks} (n : Instant) → i ≡ k .counts .tasks → Made f k i next m
-      → (next ≡ withState (everyTurn k n f .tasks) (k .locks) (k .enabled) k) × (m ≡ marksOf (everyTurn k n f))
+  pub made-all : {i : ℕ} {next : State} {s : Sets} (n : Instant) → i ≡ k .counts .tasks → Made f k i next s
+      → (next ≡ withState (everyTurn k n f .tasks) (k .locks) (k .enabled) k) × (s ≡ everyTurn k n f .sets)
   unfolding tasksAfter setAfter everyTurn
   made-all n e h =
-      (h .state ∙ ap (λ (x : ℕ). withState (tasksAfter f x (k .tasks)) (k .locks) (k .enabled) k) e, h .marks ∙ ap (λ (x : ℕ). marksAfter f x (k .tasks)) e)
+      (h .state ∙ ap (λ (x : ℕ). withState (tasksAfter f x (k .tasks)) (k .locks) (k .enabled) k) e, h .sets ∙ ap (λ (x : ℕ). setsAfter f x (k .tasks)) e)
 
-  module _ (i : ℕ) (l : i < length (k .tasks)) {next : State} {m : Marks} (h : Made f k i next m) where
+  module _ (i : ℕ) (l : i < length (k .tasks)) {next : State} {s : Sets} (h : Made f k i next s) where
     pub task-now : taskAt (next .tasks) i ≡ taskAt (k .tasks) i
     task-now = ap (λ (q : State). taskAt (q .tasks) i) (h .state) ∙ after-later f i i (k .tasks) (omega arith)
 
     made-turn : (u : Turn) → u ≡ f (taskAt (next .tasks) i)
-        → Made f k (i + 1) (withState (set (next .tasks) i (u .task)) (next .locks) (next .enabled) next) (withTurn i u m)
+        → Made f k (i + 1) (withState (set (next .tasks) i (u .task)) (next .locks) (next .enabled) next) (putMarks i (u .marks) s)
     made-turn u e =
         let v : u ≡ f (taskAt (k .tasks) i) = e ∙ ap f task-now in
-        rw (add-one, h .state, h .marks, v)
+        rw (add-one, h .state, h .sets, v)
         (record {
           state = rw (after-more f i (k .tasks) l);
-          marks = rw (set-after-more f (λ u. u .due) i (k .tasks) l, set-after-more f (λ u. u .started) i (k .tasks) l, set-after-more f (λ u. u .ended) i (k .tasks) l, set-after-more f (λ u. u .lost) i (k .tasks) l);
+          sets = sets-after-more f i (k .tasks) l;
         })
 
-    module _ {next′ : State} {m′ : Marks} where
+    module _ {next′ : State} {s′ : Sets} where
       -- Task i has its turn,
       pub made-more : (u : Turn) → u ≡ f (taskAt (next .tasks) i)
-          → next′ ≡ withState (set (next .tasks) i (u .task)) (next .locks) (next .enabled) next → m′ ≡ withTurn i u m
-          → Made f k (i + 1) next′ m′
+          → next′ ≡ withState (set (next .tasks) i (u .task)) (next .locks) (next .enabled) next → s′ ≡ putMarks i (u .marks) s
+          → Made f k (i + 1) next′ s′
       made-more u e a b = rw (a, b) (made-turn u e)
 
       -- or is passed over, if it would change nothing.
-      pub made-still : f (taskAt (next .tasks) i) ≡ unmarked (taskAt (next .tasks) i) → next′ ≡ next → m′ ≡ m → Made f k (i + 1) next′ m′
+      pub made-still : f (taskAt (next .tasks) i) ≡ unmarked (taskAt (next .tasks) i) → next′ ≡ next → s′ ≡ s → Made f k (i + 1) next′ s′
       made-still e a b =
           let q = made-turn (unmarked (taskAt (next .tasks) i)) (sym e) in
           record {
             state = a ∙ ap (λ (ts : List Task). withState ts (next .locks) (next .enabled) next) (sym (set-getD (next .tasks) i noTask)) ∙ q .state;
-            marks = b ∙ q .marks;
+            sets = b ∙ q .sets;
           }
 
 -- ---- what they leave of a kernel that passes the test
@@ -174,8 +162,8 @@ module _ (f : Task → Turn) (k : State) where
 abbrev pub everyDone : State → Instant → (Task → Turn) → State
 everyDone k n f = withState (everyTurn k n f .tasks) (k .locks) (k .enabled) k
 
-pub every-finish : (k : State) (f : Task → Turn) {next : State} {m : Marks}
-    → next ≡ everyDone k (k .now) f → m ≡ marksOf (everyTurn k (k .now) f) → finish next (workHere next m) ≡ finish k (everyTurn k (k .now) f)
+pub every-finish : (k : State) (f : Task → Turn) {next : State} {s : Sets}
+    → next ≡ everyDone k (k .now) f → s ≡ everyTurn k (k .now) f .sets → finish next (workHere next s) ≡ finish k (everyTurn k (k .now) f)
 unfolding finish everyTurn
 every-finish k f a b = rw (a, b)
 
@@ -215,12 +203,12 @@ every-idle day k v long n f new =
     (servable-idle c ts (k .locks) i))
 
 -- The call ends at instant n where nobody is to be served once every task has had its turn.
-pub every-unserved : (k : State) (n : Instant) (f : Task → Turn) {next : State} {m : Marks} {r : Running}
-    → next ≡ everyDone k n f → m ≡ marksOf (everyTurn k n f)
+pub every-unserved : (k : State) (n : Instant) (f : Task → Turn) {next : State} {s : Sets} {r : Running}
+    → next ≡ everyDone k n f → s ≡ everyTurn k n f .sets
     → nextServed (k .counts .tasks) (served (everyDone k n f) 0) ≡ Idle → r ≡ runningOf (k .counts .tasks) (everyTurn k n f .tasks)
-    → record { state = begunAt n next; answer = answerOf 0 r m } ≡ finish k (everyTurn k n f)
+    → record { state = begunAt n next; answer = answerOf 0 r s } ≡ finish k (everyTurn k n f)
 unfolding finish servedOf everyTurn
-every-unserved k n f a b h e = rw (a, b, e, served-idle (everyDone k n f) 0 h)
+every-unserved k n f a b h e = rw (a, b, e, served-idle (everyDone k n f) (everyTurn k n f .sets .granted) h)
 
 -- ---- a tick at the last instant is refused
 

@@ -1,14 +1,13 @@
 // What a call does to the task that it is about and to the locks.
 ghost use mathlib.Core.Path.{_≡_};
-ghost use Prim.Native.Nat.{ℕ, _≤_, _<_};
+ghost use Prim.Native.Nat.{ℕ, _≤_};
 ghost use Rattle.calendar.specs.Limits.{day, lastInstant};
 ghost use Rattle.record.specs.Reading.{callWith};
-ghost use Rattle.machine.specs.State.{mostTasks};
 ghost use Rattle.machine.specs.Sorts.{sortOf, runnerAt, placeOf};
 ghost use Rattle.machine.specs.Work.{byTurn, byLocks};
 ghost use Rattle.machine.specs.Calls.{namedTurn, runnerTurn, asks, changeOf};
 ghost use Rattle.refusals.specs.Inner.{InOrder};
-ghost use Rattle.calls.specs.Inner.{Returnable, marksBy};
+ghost use Rattle.calls.specs.Inner.{Returnable};
 ghost use Rattle.task.specs.declared.Task.{Task};
 ghost use mathlib.Core.List.{List};
 use crate::activate::activate;
@@ -24,10 +23,9 @@ use machine::Change;
 use machine::Running;
 use machine::Sort;
 use refusals::sorts::is_naming;
-use serving::ends::Marks;
 use survey::granting::Asker;
 use survey::granting::could_be_granted;
-use survey::sets::only_task;
+use task::Marks;
 use task::Task;
 use task::Turn;
 
@@ -55,29 +53,21 @@ fn by_turn(locks: Locks, u: Turn) -> Change
     ensures { λ c. ⌜ c ≡ byTurn locks u ⌝ }
 {
     let task = u.task;
-    Change {
-        task,
-        locks,
-        due: u.due,
-        started: u.started,
-        ended: u.ended,
-        lost: u.lost,
-        granted: false,
-    }
+    let marks = u.marks;
+    Change { task, locks, marks }
 }
 
 fn by_locks(task: Task, locks: Locks, granted: bool) -> Change
     ensures { λ c. ⌜ c ≡ byLocks task locks granted ⌝ }
 {
-    Change {
-        task,
-        locks,
+    let marks = Marks {
         due: false,
         started: false,
         ended: false,
         lost: false,
         granted,
-    }
+    };
+    Change { task, locks, marks }
 }
 
 // The turn of the task that AC, TE, SU, PR or CO names.
@@ -150,19 +140,5 @@ pub(crate) fn change_of(
         Sort::Declaration => by_locks(t, locks, false),
         Sort::AnInterrupt => by_locks(t, locks, false),
         Sort::EveryTask => by_locks(t, locks, false),
-    }
-}
-
-// The sets of a change of task i.
-pub(crate) fn marks_of(i: usize, c: Change) -> Marks
-    requires { ⌜ i < mostTasks ⌝ }
-    ensures { λ m. ⌜ m ≡ marksBy i c ⌝ }
-{
-    Marks {
-        due: only_task(i, c.due),
-        started: only_task(i, c.started),
-        ended: only_task(i, c.ended),
-        lost: only_task(i, c.lost),
-        granted: only_task(i, c.granted),
     }
 }

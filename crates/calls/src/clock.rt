@@ -11,8 +11,7 @@ ghost use Rattle.machine.specs.Refusals.{stateRefusal};
 ghost use Rattle.machine.specs.Work.{everyTurn};
 ghost use Rattle.machine.specs.Calls.{tick, trigger, enable, interruptBy};
 ghost use Rattle.machine.specs.Step.{finish, orRefuse};
-ghost use Rattle.survey.specs.Looks.{putIf, waitsOk};
-ghost use Rattle.serving.specs.Ends.{marksOf};
+ghost use Rattle.survey.specs.Looks.{waitsOk};
 ghost use Rattle.layout.specs.declared.Mark.the-variants.{TI};
 ghost use Rattle.layout.specs.declared.Call.{Call};
 use crate::declarations::answered;
@@ -22,59 +21,44 @@ use calendar::LAST_INSTANT;
 use layout::Head;
 use layout::Mark;
 use machine::Running;
+use machine::Sets;
 use machine::State;
 use machine::Stepped;
-use serving::ends::Marks;
 use serving::ends::answer_of;
 use serving::ends::begun_at;
 use serving::ends::done;
 use serving::ends::finished;
-use serving::ends::no_marks;
+use serving::ends::no_sets;
 use survey::scan::no_lead;
-use survey::sets::put_if;
-use task::Turn;
+use survey::sets::put_marks;
 
 // A kernel at work, and the sets so far.
 pub struct Working {
     pub state: State,
-    pub marks: Marks,
-}
-
-// The sets with task i's turn in them.
-fn marked(m: Marks, i: usize, u: Turn) -> Marks
-    requires { ⌜ i < mostTasks ⌝ }
-    ensures { λ r. ⌜ r ≡ record { due = putIf i (u .due) (m .due); started = putIf i (u .started) (m .started); ended = putIf i (u .ended) (m .ended); lost = putIf i (u .lost) (m .lost); granted = m .granted } ⌝ }
-{
-    Marks {
-        due: put_if(i, u.due, m.due),
-        started: put_if(i, u.started, m.started),
-        ended: put_if(i, u.ended, m.ended),
-        lost: put_if(i, u.lost, m.lost),
-        granted: m.granted,
-    }
+    pub sets: Sets,
 }
 
 // Each declared task's turn at a trigger of the enabled interrupt.
 pub(crate) fn trigger_all(mut k: State, interrupt: u8) -> Working
     requires { ⌜ k .counts .tasks ≤ mostTasks ⌝ }
     requires { ⌜ k .now .0 ≤ lastInstant ⌝ }
-    ensures { λ r. ⌜ (r .state ≡ withState (everyTurn k (k .now) (triggerTurn day (k .clock) (k .now) interrupt) .tasks) (k .locks) (k .enabled) k) × (r .marks ≡ marksOf (everyTurn k (k .now) (triggerTurn day (k .clock) (k .now) interrupt))) ⌝ }
+    ensures { λ r. ⌜ (r .state ≡ withState (everyTurn k (k .now) (triggerTurn day (k .clock) (k .now) interrupt) .tasks) (k .locks) (k .enabled) k) × (r .sets ≡ everyTurn k (k .now) (triggerTurn day (k .clock) (k .now) interrupt) .sets) ⌝ }
 {
     let counts = k.counts;
     let most = counts.tasks as usize;
     let n = k.now;
     let clock = k.clock;
-    let mut m = no_marks();
+    let mut s = no_sets();
     for i in 0..most {
         let t = k.tasks[i];
         if t.listens_to(interrupt) {
             let u = t.trigger(clock, n, interrupt);
             let after = u.task;
             k.tasks[i] = after;
-            m = marked(m, i, u);
+            s = put_marks(i, u.marks, s);
         }
     }
-    Working { state: k, marks: m }
+    Working { state: k, sets: s }
 }
 
 // Each declared task's turn at a tick: those that something comes to, since the others stay as they are. No turn makes a
@@ -91,7 +75,7 @@ pub(crate) fn ticked(mut k: State, r: Running) -> Stepped
     let n = now.plus(Duration(1));
     let counts = k.counts;
     let most = counts.tasks as usize;
-    let mut m = no_marks();
+    let mut s = no_sets();
     let mut lead = no_lead();
     if let Running::Runs(j) = r {
         let at = j as usize;
@@ -107,14 +91,14 @@ pub(crate) fn ticked(mut k: State, r: Running) -> Stepped
             let u = whole.tick(n);
             let after = u.task;
             k.tasks[i] = after;
-            m = marked(m, i, u);
+            s = put_marks(i, u.marks, s);
             lead = lead.against_if(after.is_runnable(), after.current, i);
         }
     }
     let runner = lead.who();
     Stepped {
         state: begun_at(k, n),
-        answer: answer_of(0, runner, m),
+        answer: answer_of(0, runner, s),
     }
 }
 
@@ -126,8 +110,8 @@ fn triggered(k: State, i: u8) -> Stepped
     let at = i as usize;
     if k.enabled[at] {
         let w = trigger_all(k, i);
-        let m = w.marks;
-        return finished(w.state, m);
+        let s = w.sets;
+        return finished(w.state, s);
     }
     done(k)
 }

@@ -2,13 +2,12 @@
 ghost use mathlib.Core.Path.{_≡_};
 ghost use mathlib.Core.Bool.{true};
 ghost use Rattle.calendar.specs.Limits.{day};
-ghost use Rattle.record.specs.Reading.{callWith};
+ghost use Rattle.record.specs.Reading.{numberOf, callWith};
 ghost use Rattle.machine.specs.Running.{runner};
 ghost use Rattle.machine.specs.Test.{valid};
 ghost use Rattle.machine.specs.Refusals.{formalRefusal};
 ghost use Rattle.machine.specs.Step.{settle, step};
 use crate::changes::change_of;
-use crate::changes::marks_of;
 use crate::changes::place_of;
 use crate::clock::interrupted;
 use crate::clock::ticked;
@@ -30,7 +29,9 @@ use refusals::sorts::is_ticking;
 use refusals::sorts::sort_of;
 use refusals::state::state_refusal;
 use serving::ends::finished;
+use serving::ends::no_sets;
 use survey::look::survey;
+use survey::sets::put_marks;
 
 // A call or declaration that no formal ground refuses: its state refusals, or what it does.
 fn carry_out(mut k: State, h: Head, list: Numbers, r: Running) -> Stepped
@@ -63,7 +64,17 @@ fn carry_out(mut k: State, h: Head, list: Numbers, r: Running) -> Stepped
     let locks = c.locks;
     k.tasks[i] = task;
     k.locks = locks;
-    finished(k, marks_of(i, c))
+    finished(k, put_marks(i, c.marks, no_sets()))
+}
+
+// The number of a reader's answer: 0, or the refusal's.
+fn number_of(a: Read) -> u8
+    ensures { λ n. ⌜ n ≡ numberOf a ⌝ }
+{
+    match a {
+        Read::Refused(n) => n,
+        Read::Accepted(_) => 0,
+    }
 }
 
 // The step on a kernel that passes the test, r its running task.
@@ -79,10 +90,10 @@ pub fn step_on(k: State, s: &[u8], r: Running) -> Stepped
     let reading = admit(counts, k.begun, s);
     let answer = reading.answer;
     let list = reading.list;
-    match answer {
-        Read::Refused(n) => answered(k, n, r),
-        Read::Accepted(head) => carry_out(k, head, list, r),
-    }
+    let Read::Accepted(head) = answer else {
+        return answered(k, number_of(answer), r);
+    };
+    carry_out(k, head, list, r)
 }
 
 // The machine's step. A tick before the next event takes the short way.

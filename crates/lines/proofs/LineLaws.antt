@@ -7,6 +7,7 @@ use native.Mathlib.Omega.{arith}
 use lib.Dec.{leb}
 use lib.ListN.{length, length-append}
 use borrow.Author.Tests.{leb-true}
+use Rattle.machine.specs.Sets.{Set, Due, Started, Ended, Lost, Granted, members}
 use Rattle.machine.specs.declared.Answer.{Answer}
 use Rattle.machine.specs.declared.Running.{Running}
 use Rattle.machine.specs.declared.Running.the-variants.{Idle, Runs}
@@ -25,9 +26,10 @@ running-long (Runs i) h = byte-long i h
 pub no-line-longer : NoLineLonger
 unfolding line setsText
 no-line-longer a t =
+    let word : (x : Set) → length (decimal (members x (a .sets))) ≤ 10 = λ x. word-long (members x (a .sets)) (t .sets x) in
     simp length-append
     (omega
-    (arith, byte-long (a .number) (t .number), running-long (a .running) (t .running), word-long (a .due) (t .due), word-long (a .started) (t .started), word-long (a .ended) (t .ended), word-long (a .lost) (t .lost), word-long (a .granted) (t .granted)))
+    (arith, byte-long (a .number) (t .number), running-long (a .running) (t .running), word Due, word Started, word Ended, word Lost, word Granted))
 
 -- ---- read back
 
@@ -84,27 +86,22 @@ past b low m n r s e =
 
 answer : ℕ → Running → ℕ → ℕ → ℕ → ℕ → ℕ → Answer
 answer n r d s e l g =
-    record { number = n; running = r; due = d; started = s; ended = e; lost = l; granted = g }
+    record { number = n; running = r; sets = record { due = d; started = s; ended = e; lost = l; granted = g } }
 
 -- 0 - 1 12 0 0 0
 example : line (answer 0 Idle 1 12 0 0 0) ≡ 48 ∷ 32 ∷ 45 ∷ 32 ∷ 49 ∷ 32 ∷ 49 ∷ 50 ∷ 32 ∷ 48 ∷ 32 ∷ 48 ∷ 32 ∷ 48 ∷ 10 ∷ []
 unfolding answer line setsText runningText decimal spelt
 example = refl
 
-same-answer : (a b : Answer) → a .number ≡ b .number → a .running ≡ b .running → a .due ≡ b .due → a .started ≡ b .started → a .ended ≡ b .ended → a .lost ≡ b .lost → a .granted ≡ b .granted → a ≡ b
-unfolding answer
-same-answer a b n r d s e l g =
-    let same : answer (a .number) (a .running) (a .due) (a .started) (a .ended) (a .lost) (a .granted) ≡ answer (b .number) (b .running) (b .due) (b .started) (b .ended) (b .lost) (b .granted) = cc in
-    same
-
 -- A line before a rest, from the left.
 opened : Answer → List ℕ → List ℕ
 opened a r =
+    let s = a .sets in
     decimal (a .number)
     ++ space ∷ (runningText (a .running)
-    ++ space ∷ (decimal (a .due)
-    ++ space ∷ (decimal (a .started)
-    ++ space ∷ (decimal (a .ended) ++ space ∷ (decimal (a .lost) ++ space ∷ (decimal (a .granted) ++ lineFeed ∷ r))))))
+    ++ space ∷ (decimal (s .due)
+    ++ space ∷ (decimal (s .started)
+    ++ space ∷ (decimal (s .ended) ++ space ∷ (decimal (s .lost) ++ space ∷ (decimal (s .granted) ++ lineFeed ∷ r))))))
 
 line-opened : (a : Answer) (r : List ℕ) → line a ++ r ≡ opened a r
 unfolding line setsText opened
@@ -112,11 +109,11 @@ line-opened a r =
     regroup
     (decimal (a .number))
     (space ∷ runningText (a .running))
-    (space ∷ decimal (a .due))
-    (space ∷ decimal (a .started))
-    (space ∷ decimal (a .ended))
-    (space ∷ decimal (a .lost))
-    (space ∷ decimal (a .granted))
+    (space ∷ decimal (a .sets .due))
+    (space ∷ decimal (a .sets .started))
+    (space ∷ decimal (a .sets .ended))
+    (space ∷ decimal (a .sets .lost))
+    (space ∷ decimal (a .sets .granted))
     (lineFeed ∷ [])
     r where
       regroup : (a b c d e f g h r : List ℕ) → a ++ b ++ (c ++ d ++ e ++ f ++ g ++ h) ++ r ≡ a ++ (b ++ (c ++ (d ++ (e ++ (f ++ (g ++ (h ++ r)))))))
@@ -127,9 +124,18 @@ unfolding opened
 lines-read-back a b r s e =
     let number = past space (omega arith) (a .number) (b .number) _ _ (sym (line-opened a r) ∙ e ∙ line-opened b s) in
     let running = parts space (runningText (a .running)) (runningText (b .running)) _ _ (running-without (a .running)) (running-without (b .running)) (number .1) in
-    let due = past space (omega arith) (a .due) (b .due) _ _ (running .1) in
-    let started = past space (omega arith) (a .started) (b .started) _ _ (due .1) in
-    let ended = past space (omega arith) (a .ended) (b .ended) _ _ (started .1) in
-    let lost = past space (omega arith) (a .lost) (b .lost) _ _ (ended .1) in
-    let granted = past lineFeed (omega arith) (a .granted) (b .granted) _ _ (lost .1) in
-    (same-answer a b (number .0) (same-running (a .running) (b .running) (running .0)) (due .0) (started .0) (ended .0) (lost .0) (granted .0), granted .1)
+    let p = a .sets in
+    let q = b .sets in
+    let due = past space (omega arith) (p .due) (q .due) _ _ (running .1) in
+    let started = past space (omega arith) (p .started) (q .started) _ _ (due .1) in
+    let ended = past space (omega arith) (p .ended) (q .ended) _ _ (started .1) in
+    let lost = past space (omega arith) (p .lost) (q .lost) _ _ (ended .1) in
+    let granted = past lineFeed (omega arith) (p .granted) (q .granted) _ _ (lost .1) in
+    let runs = same-running (a .running) (b .running) (running .0) in (
+      λ i. record {
+        number = number .0 i;
+        running = runs i;
+        sets = record { due = due .0 i; started = started .0 i; ended = ended .0 i; lost = lost .0 i; granted = granted .0 i };
+      },
+      granted .1,
+    )

@@ -3,7 +3,9 @@ use mathlib.Core.Path.{_≡_}
 use mathlib.Core.List.{List, [], _∷_, _++_}
 use Prim.Native.Nat.{ℕ, _^_, _≤_, _<_}
 use lib.ListN.{length}
+use Rattle.machine.specs.Sets.{Set, members}
 use Rattle.machine.specs.declared.Answer.{Answer}
+use Rattle.machine.specs.declared.Sets.{Sets}
 use Rattle.machine.specs.declared.Running.{Running}
 use Rattle.machine.specs.declared.Running.the-variants.{Idle, Runs}
 use Rattle.lines.specs.Decimals.{decimal}
@@ -23,18 +25,18 @@ runningText Idle = dash ∷ []
 runningText (Runs i) = decimal i
 
 -- Five numbers, each after a space, and a line feed.
-unfoldable pub setsText : Answer → List ℕ
-setsText a =
-    space ∷ decimal (a .due)
-    ++ space ∷ decimal (a .started)
-    ++ space ∷ decimal (a .ended)
-    ++ space ∷ decimal (a .lost)
-    ++ space ∷ decimal (a .granted)
+unfoldable pub setsText : Sets → List ℕ
+setsText s =
+    space ∷ decimal (s .due)
+    ++ space ∷ decimal (s .started)
+    ++ space ∷ decimal (s .ended)
+    ++ space ∷ decimal (s .lost)
+    ++ space ∷ decimal (s .granted)
     ++ lineFeed ∷ []
 
 -- As 0 - 1 1 0 0 0 and a line feed.
 unfoldable pub line : Answer → List ℕ
-line a = decimal (a .number) ++ space ∷ runningText (a .running) ++ setsText a
+line a = decimal (a .number) ++ space ∷ runningText (a .running) ++ setsText (a .sets)
 
 -- Two numbers of three digits, five of ten, six spaces and a line feed.
 abbrev pub longestLine : ℕ
@@ -50,11 +52,7 @@ RunningByte (Runs i) = i < 2 ^ 8
 pub record InTypes (a : Answer) : Type 0 where
   pub number : a .number < 2 ^ 8
   pub running : RunningByte (a .running)
-  pub due : a .due < 2 ^ 32
-  pub started : a .started < 2 ^ 32
-  pub ended : a .ended < 2 ^ 32
-  pub lost : a .lost < 2 ^ 32
-  pub granted : a .granted < 2 ^ 32
+  pub sets : (x : Set) → members x (a .sets) < 2 ^ 32
 
 -- ---- what holds of every line, proved in proofs/LineLaws.antt
 

@@ -8,6 +8,7 @@ ghost use Rattle.lines.specs.Decimals.{decimal};
 ghost use Rattle.lines.specs.Lines.{space, runningText, setsText, line, longestLine};
 use machine::Answer;
 use machine::Running;
+use machine::Sets;
 
 // How many digits a number has.
 fn digits_of(n: u32) -> usize
@@ -88,16 +89,16 @@ fn set_at(n: u32, out: &mut [u8], at: usize) -> usize
 }
 
 // The five sets and the line feed.
-fn sets_at(a: Answer, out: &mut [u8], at: usize) -> usize
+fn sets_at(s: Sets, out: &mut [u8], at: usize) -> usize
     requires { ⌜ at + 56 ≤ length (now out) ⌝ }
-    ensures { λ r. ⌜ Wrote (now (out .entry)) at (setsText a) (now (out .exit)) r ⌝ }
+    ensures { λ r. ⌜ Wrote (now (out .entry)) at (setsText s) (now (out .exit)) r ⌝ }
     ensures { λ r. ⌜ r ≤ at + 56 ⌝ }
 {
-    let started = set_at(a.due, out, at);
-    let ended = set_at(a.started, out, started);
-    let lost = set_at(a.ended, out, ended);
-    let granted = set_at(a.lost, out, lost);
-    let feed = set_at(a.granted, out, granted);
+    let started = set_at(s.due, out, at);
+    let ended = set_at(s.started, out, started);
+    let lost = set_at(s.ended, out, ended);
+    let granted = set_at(s.lost, out, lost);
+    let feed = set_at(s.granted, out, granted);
     out[feed] = b'\n';
     feed + 1
 }
@@ -111,5 +112,5 @@ pub fn line_at(a: Answer, out: &mut [u8], at: usize) -> usize
     let task = a.running;
     let running = byte_at(a.number, out, at);
     let sets = running_at(task, out, running);
-    sets_at(a, out, sets)
+    sets_at(a.sets, out, sets)
 }

@@ -1,5 +1,5 @@
 -- Steps on two kernels that differ at most in places beyond the counts match.
-use mathlib.Core.Path.{_≡_, refl, sym, subst}
+use mathlib.Core.Path.{_≡_, refl, ap, sym, subst}
 use mathlib.Core.Bool.{Bool, true, false}
 use mathlib.Core.List.{List, [], _∷_}
 use Prim.Native.Nat.{ℕ, zero, suc, _<_}
@@ -25,6 +25,8 @@ use Rattle.machine.specs.Serving.{Served, serve}
 use Rattle.machine.specs.Test.{valid}
 use Rattle.machine.specs.Refusals.{roomFor}
 use Rattle.machine.specs.Calls.{addTask, addSemaphore, addBolt, addInterrupt, declaration}
+use Rattle.machine.specs.declared.Sets.{Sets}
+use Rattle.machine.specs.Sets.{withGranted}
 use Rattle.machine.specs.Step.{refuse, finish, declared, orRefuse, carryOut, carryOn, step}
 use Rattle.machine.specs.Log.{log}
 use Rattle.machine.specs.Beyond.{Agree, Match, StepsAgree, LogsAgree}
@@ -53,7 +55,7 @@ alike-agree k ts r is a b c =
     }
 
 abbrev served : Work → Served
-served w = record { tasks = w .tasks; locks = w .locks; granted = w .granted }
+served w = record { tasks = w .tasks; locks = w .locks; granted = w .sets .granted }
 
 module _ (day : ℕ) (k : State) (ts : List Task) (r : Locks) (is : List Bool) (a : Agree k (withState ts r is k)) where
   abbrev n : Counts
@@ -95,17 +97,13 @@ module _ (day : ℕ) (k : State) (ts : List Task) (r : Locks) (is : List Bool) (
     finish-match w w′ q =
         let z = serve (n .tasks) (n .tasks) (served w) in
         let z′ = serve (n .tasks) (n .tasks) (served w′) in
-        let (p, g) = serve-pair n f (n .tasks) (served w) (served w′) (q .pair, q .granted) in
+        let (p, g) = serve-pair n f (n .tasks) (served w) (served w′) (q .pair, ap (λ (s : Sets). s .granted) (q .sets)) in
         let e = running-same n (z .tasks) (z′ .tasks) (p .tasks .below) in
         record {
           answer = λ i. record {
             number = 0;
             running = e i;
-            due = q .due i;
-            started = q .started i;
-            ended = q .ended i;
-            lost = q .lost i;
-            granted = g i;
+            sets = withGranted (g i) (q .sets i);
           };
           state = rw (← q .now) (alike-agree (finish k w .state) _ _ _ (p .tasks) (p .locks) (q .enabled));
         }

@@ -99,7 +99,7 @@ module _ (day : ℕ) (k : State) (h : StateOk day k) where
 
   -- What serving starts from.
   abbrev pub begin : Work → Served
-  begin w = record { tasks = w .tasks; locks = w .locks; granted = w .granted }
+  begin w = record { tasks = w .tasks; locks = w .locks; granted = w .sets .granted }
 
   pub begin-ok : (w : Work) → WorkOk day k w → ServedOk day k (begin w)
   begin-ok w a = record { tasks-size = a .tasks-size; locks-size = a .locks-size; bounded = a .bounded; tasks-ok = a .tasks-ok }

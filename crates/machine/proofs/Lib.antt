@@ -1,5 +1,5 @@
 -- Laws of the machine's definitions.
-pub mod Sets
+pub mod SetLaws
 pub mod Below
 pub mod Urgency
 pub mod Passed

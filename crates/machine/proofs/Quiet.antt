@@ -23,7 +23,7 @@ use Rattle.task.specs.declared.Turn.{Turn}
 use Rattle.machine.specs.declared.Counts.{Counts}
 use Rattle.machine.specs.declared.State.{State}
 use Rattle.machine.specs.declared.Stepped.{Stepped}
-use Rattle.machine.specs.Sets.{setOf}
+use Rattle.machine.specs.Sets.{Set, setOf, mark, noSets}
 use Rattle.machine.specs.State.{mostTasks, taskAt, begunAt}
 use Rattle.machine.specs.Running.{runner, urgency}
 use Rattle.machine.specs.Granting.{servable}
@@ -41,6 +41,8 @@ use Rattle.task.proofs.Laws.{still}
 use Rattle.machine.proofs.Below.{mostUrgent-none}
 use Rattle.machine.proofs.NextEvent.{next-is-next, next-later}
 use Rattle.machine.proofs.Passed.{parts, tested}
+use Rattle.machine.proofs.SetLaws.{each-same, unmarked-none}
+use Rattle.machine.proofs.Works.{set-none}
 use Rattle.machine.proofs.Facts.{nobody-untest}
 
 -- ---- turns that mark nothing and leave their tasks
@@ -54,17 +56,6 @@ module _ (f : Task → Turn) where
   kept-tasks (suc n) (t ∷ ts) h e =
       ap₂ (λ (a : Task) (b : List Task). a ∷ b) (ap (λ u. u .task) (e 0 (omega arith)))
       (kept-tasks n ts (omega arith) (λ i l. e (suc i) (omega arith)))
-
-  no-marks : (g : Turn → Bool) → ((t : Task) → g (unmarked t) ≡ false)
-      → (n : ℕ) (ts : List Task) → n ≤ length ts
-      → ((i : ℕ) → i < n → f (taskAt ts i) ≡ unmarked (taskAt ts i))
-      → setOf (map g (turns n f ts)) ≡ 0
-  unfolding setOf
-  no-marks g z zero ts h e = refl
-  no-marks g z (suc n) [] h e = absurd (not-suc-le-zero h)
-  no-marks g z (suc n) (t ∷ ts) h e =
-      let a : g (f t) ≡ false = ap g (e 0 (omega arith)) ∙ z t in
-      rw (a, no-marks g z n ts (omega arith) (λ i l. e (suc i) (omega arith)))
 
 module _ (day : ℕ) (k : State) where
   pub still-valid : (n : Instant) → k .now .0 ≤ lastInstant → n .0 ≤ lastInstant → valid day k ≡ true → valid day (begunAt n k) ≡ true
@@ -92,24 +83,31 @@ module _ (day : ℕ) (k : State) (room : length (k .tasks) ≡ mostTasks) (v : v
         serve,
       )
 
-  tick-moves : Quiet 1 k
-      → finish k (tick k)
-      ≡ record { state = begunAt (plus (k .now) (duration 1)) k; answer = plainAnswer 0 (runner k) }
-  unfolding finish tick everyTurn
-  tick-moves q =
+  tick-still : Quiet 1 k
+      → tick k
+      ≡ record { now = plus (k .now) (duration 1); tasks = k .tasks; locks = k .locks; enabled = k .enabled; sets = noSets }
+  unfolding tick everyTurn
+  tick-still q =
       let n = k .counts .tasks in
       let f = tickTurn (plus (k .now) (duration 1)) in
       let r : n ≤ length (k .tasks) = omega (arith, tested day k v .fits .tasks) in
       let e : (i : ℕ) → i < n → f (taskAt (k .tasks) i) ≡ unmarked (taskAt (k .tasks) i) =
       λ i l. still (plus (k .now) (duration 1)) (taskAt (k .tasks) i) (q i l (k .now .0 + 1) (omega arith) (omega arith)) in
-      rw (
-        kept-tasks f n (k .tasks) r e,
-        no-marks f (λ u. u .due) (λ t. refl) n (k .tasks) r e,
-        no-marks f (λ u. u .started) (λ t. refl) n (k .tasks) r e,
-        no-marks f (λ u. u .ended) (λ t. refl) n (k .tasks) r e,
-        no-marks f (λ u. u .lost) (λ t. refl) n (k .tasks) r e,
-        nobody-served 0 n,
-      )
+      let tasks = kept-tasks f n (k .tasks) r e in
+      let sets = each-same (λ x. setOf (map (λ u. mark x (u .marks)) (turns n f (k .tasks)))) (λ x. 0) (λ x. set-none n f (k .tasks) r (λ u. mark x (u .marks)) (λ i l. ap (λ (u : Turn). mark x (u .marks)) (e i l) ∙ unmarked-none x (taskAt (k .tasks) i))) in
+      λ i. record {
+        now = plus (k .now) (duration 1);
+        tasks = tasks i;
+        locks = k .locks;
+        enabled = k .enabled;
+        sets = sets i;
+      }
+
+  tick-moves : Quiet 1 k
+      → finish k (tick k)
+      ≡ record { state = begunAt (plus (k .now) (duration 1)) k; answer = plainAnswer 0 (runner k) }
+  unfolding finish
+  tick-moves q = rw (tick-still q, nobody-served 0 (k .counts .tasks))
 
   -- A tick, quiet or not.
   pub tick-step : (c : Call) → step day k oneTick ≡ orRefuse k (stateRefusal TI k c) (finish k (tick k))

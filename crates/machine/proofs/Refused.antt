@@ -7,11 +7,12 @@ use Rattle.machine.specs.declared.State.{State}
 use Rattle.machine.specs.declared.Running.{Running}
 use Rattle.machine.specs.Step.{refuse, step}
 use Rattle.machine.specs.Promises.{Untouched, RefusedIsUntouched, UntestedIsRefused, Numbered, RefusalsAreNumbered}
+use Rattle.machine.proofs.SetLaws.{no-members}
 use Rattle.machine.proofs.Cases.{done-number, step-cases}
 
 refuse-untouched : (k : State) (n : ℕ) (r : Running) → Untouched k (refuse k n r)
 unfolding refuse
-refuse-untouched k n r = record { state = refl; due = refl; started = refl; ended = refl; lost = refl; granted = refl }
+refuse-untouched k n r = record { state = refl; sets = no-members }
 
 refuse-number : (k : State) (n : ℕ) (r : Running) → refuse k n r .answer .number ≡ n
 unfolding refuse

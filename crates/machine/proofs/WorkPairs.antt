@@ -52,11 +52,7 @@ pub record WorkPair (n : Counts) (w w′ : Work) : Type 0 where
   pub now : w .now ≡ w′ .now
   pub pair : Pair n (w .tasks) (w′ .tasks) (w .locks) (w′ .locks)
   pub enabled : Like false mostInterrupts (n .interrupts) (w .enabled) (w′ .enabled)
-  pub due : w .due ≡ w′ .due
-  pub started : w .started ≡ w′ .started
-  pub ended : w .ended ≡ w′ .ended
-  pub lost : w .lost ≡ w′ .lost
-  pub granted : w .granted ≡ w′ .granted
+  pub sets : w .sets ≡ w′ .sets
 
 no-wait-activate : (day clock : ℕ) (n : Instant) (h : Head) (t : Task) → NoNewWait t (activateTurn day clock n h t .task)
 unfolding activateTurn
@@ -99,11 +95,7 @@ module _ (k : State) (ts : List Task) (r : Locks) (is : List Bool) (f : Fits (k 
         now = refl;
         pair = record { tasks = h .tasks; locks = a; listed = h .listed };
         enabled = b;
-        due = refl;
-        started = refl;
-        ended = refl;
-        lost = refl;
-        granted = refl;
+        sets = refl;
       }
 
   none-pair : WorkPair n (onlyLocks k (k .locks) (k .enabled) 0) (onlyLocks k′ r is 0)
@@ -122,11 +114,7 @@ module _ (k : State) (ts : List Task) (r : Locks) (is : List Bool) (f : Fits (k 
         now = refl;
         pair = pair-set n f (k .tasks) ts (k .locks) r (k .locks) r h (h .locks) i (u .task) (u .task) (λ m. refl) l;
         enabled = ints;
-        due = refl;
-        started = refl;
-        ended = refl;
-        lost = refl;
-        granted = refl;
+        sets = refl;
       })
 
   module _ (turn : Task → Turn) (waits : (t : Task) → NoNewWait t (turn t .task)) where
@@ -169,11 +157,7 @@ module _ (k : State) (ts : List Task) (r : Locks) (is : List Bool) (f : Fits (k 
                 listed = λ i l. rw (turned-at i l) (still-listed i l);
               };
           enabled = ints;
-          due = refl;
-          started = refl;
-          ended = refl;
-          lost = refl;
-          granted = refl;
+          sets = refl;
         })
 
   -- ---- interrupts and ticks

@@ -14,10 +14,10 @@ use Rattle.task.specs.State.{noTask}
 use Rattle.task.specs.declared.Task.{Task}
 use Rattle.task.specs.declared.Turn.{Turn}
 use Rattle.machine.specs.declared.State.{State}
-use Rattle.machine.specs.Sets.{has, only, setOf}
+use Rattle.machine.specs.Sets.{has, only, setOf, noSets, withGranted}
 use Rattle.machine.specs.State.{taskAt}
 use Rattle.machine.specs.Work.{Work, byTurn, byLocks, changed, onlyEnabled, turns, everyTurn}
-use Rattle.machine.proofs.Sets.{has-setOf, setOf-lt}
+use Rattle.machine.proofs.SetLaws.{has-setOf, setOf-lt}
 
 -- ---- one task, or none
 
@@ -33,11 +33,7 @@ onlyLocks k r is g =
       tasks = k .tasks;
       locks = r;
       enabled = is;
-      due = 0;
-      started = 0;
-      ended = 0;
-      lost = 0;
-      granted = g;
+      sets = withGranted g noSets;
     }
 
 pub locks-alone : (k : State) (i : ℕ) (l : Locks) (b : Bool) → changed k i (byLocks (taskAt (k .tasks) i) l b) ≡ onlyLocks k l (k .enabled) (only i b)
@@ -75,6 +71,14 @@ module _ (n : ℕ) (f : Task → Turn) (ts : List Task) (room : n ≤ length ts)
 
   pub set-lt : (g : Turn → Bool) → setOf (map g (turns n f ts)) < 2 ^ n
   set-lt g = rw (length-map (turns n f ts) g ∙ turns-length) at (setOf-lt (map g (turns n f ts)))
+
+-- An empty one.
+pub set-none : (n : ℕ) (f : Task → Turn) (ts : List Task) → n ≤ length ts → (g : Turn → Bool)
+    → ((i : ℕ) → i < n → g (f (taskAt ts i)) ≡ false) → setOf (map g (turns n f ts)) ≡ 0
+unfolding setOf
+set-none zero f ts h g e = refl
+set-none (suc n) f [] h g e = absurd (not-suc-le-zero h)
+set-none (suc n) f (t ∷ ts) h g e = rw (e 0 (omega arith), set-none n f ts (omega arith) g (λ i l. e (suc i) (omega arith)))
 
 pub every-length : (k : State) (n : Instant) (f : Task → Turn) → k .counts .tasks ≤ length (k .tasks) → length (everyTurn k n f .tasks) ≡ length (k .tasks)
 unfolding everyTurn

@@ -29,11 +29,7 @@ line n r due started ended lost granted =
     record {
       number = n;
       running = r;
-      due = due;
-      started = started;
-      ended = ended;
-      lost = lost;
-      granted = granted;
+      sets = record { due = due; started = started; ended = ended; lost = lost; granted = granted };
     }
 
 -- Accepted with empty sets.

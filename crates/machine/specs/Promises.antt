@@ -18,6 +18,7 @@ use Rattle.machine.specs.declared.State.{State}
 use Rattle.machine.specs.declared.Running.{Running}
 use Rattle.machine.specs.declared.Running.the-variants.{Idle, Runs}
 use Rattle.machine.specs.declared.Stepped.{Stepped}
+use Rattle.machine.specs.Sets.{Set, members, noSets}
 use Rattle.machine.specs.State.{mostTasks, taskAt}
 use Rattle.machine.specs.Running.{urgency, mostUrgent, runner}
 use Rattle.machine.specs.Granting.{servable}
@@ -75,11 +76,7 @@ AnswersFirst =
 -- The kernel is as it was, and all sets are empty.
 pub record Untouched (k : State) (s : Stepped) : Type 0 where
   pub state : s .state ≡ k
-  pub due : s .answer .due ≡ 0
-  pub started : s .answer .started ≡ 0
-  pub ended : s .answer .ended ≡ 0
-  pub lost : s .answer .lost ≡ 0
-  pub granted : s .answer .granted ≡ 0
+  pub sets : (x : Set) → members x (s .answer .sets) ≡ 0
 
 -- A refused step changes nothing.
 abbrev pub RefusedIsUntouched : Type 0
@@ -91,10 +88,7 @@ abbrev pub UntestedIsRefused : Type 0
 UntestedIsRefused =
     (day : ℕ) (k : State) (s : List ℕ) → valid day k ≡ false
     → step day k s
-    ≡ record {
-      state = k;
-      answer = record { number = 1; running = Idle; due = 0; started = 0; ended = 0; lost = 0; granted = 0 };
-    }
+    ≡ record { state = k; answer = record { number = 1; running = Idle; sets = noSets } }
 
 -- Refusals are numbered 1 to 15, and 1 is for no other ground.
 pub record Numbered (day : ℕ) (k : State) (n : ℕ) : Type 0 where

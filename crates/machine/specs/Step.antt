@@ -11,6 +11,7 @@ use Rattle.machine.specs.declared.Running.{Running}
 use Rattle.machine.specs.declared.Running.the-variants.{Idle}
 use Rattle.machine.specs.declared.Answer.{Answer}
 use Rattle.machine.specs.declared.Stepped.{Stepped}
+use Rattle.machine.specs.Sets.{noSets, withGranted}
 use Rattle.machine.specs.State.{withState, begunAt}
 use Rattle.machine.specs.Running.{runningOf, runner}
 use Rattle.machine.specs.Work.{Work}
@@ -22,7 +23,7 @@ use Rattle.machine.specs.Calls.{declaration, workOf}
 
 -- All sets are empty.
 abbrev pub plainAnswer : ℕ → Running → Answer
-plainAnswer n r = record { number = n; running = r; due = 0; started = 0; ended = 0; lost = 0; granted = 0 }
+plainAnswer n r = record { number = n; running = r; sets = noSets }
 
 -- A refusal leaves the kernel as it was.
 unfoldable pub refuse : State → ℕ → Running → Stepped
@@ -31,18 +32,14 @@ refuse k n r = record { state = k; answer = plainAnswer n r }
 -- Every accepted call ends so: the waiting tasks are served, and the running task is found.
 unfoldable pub finish : State → Work → Stepped
 finish k w =
-    let p = serve (k .counts .tasks) (k .counts .tasks) (record { tasks = w .tasks; locks = w .locks; granted = w .granted }) in
+    let p = serve (k .counts .tasks) (k .counts .tasks) (record { tasks = w .tasks; locks = w .locks; granted = w .sets .granted }) in
     record {
       state = begunAt (w .now) (withState (p .tasks) (p .locks) (w .enabled) k);
       answer =
           record {
             number = 0;
             running = runningOf (k .counts .tasks) (p .tasks);
-            due = w .due;
-            started = w .started;
-            ended = w .ended;
-            lost = w .lost;
-            granted = p .granted;
+            sets = withGranted (p .granted) (w .sets);
           };
     }
 

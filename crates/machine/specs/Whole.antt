@@ -28,13 +28,13 @@ use Rattle.machine.specs.Promises.{First}
 pub record Taken (k : State) (i : ℕ) (w : Wait) (c : Call) (a : Work) : Type 0 where
   pub free : grantable w (k .locks) (named c) ≡ true
   pub locks : a .locks ≡ takeAll w (k .locks) (named c)
-  pub granted : a .granted ≡ 2 ^ i
+  pub granted : a .sets .granted ≡ 2 ^ i
   pub tasks : a .tasks ≡ k .tasks
 
 -- It couldn't: nothing is taken, nobody is granted, and the runner i waits for the list unless it only tried.
 pub record Untaken (k : State) (i : ℕ) (waits : Bool) (w : Wait) (c : Call) (a : Work) : Type 0 where
   pub locks : a .locks ≡ k .locks
-  pub granted : a .granted ≡ 0
+  pub granted : a .sets .granted ≡ 0
   pub waiting : waits ≡ true → a .tasks ≡ set (k .tasks) i (waitFor w (c .head .len) (c .list) (taskAt (k .tasks) i))
   pub tried : waits ≡ false → a .tasks ≡ k .tasks
 

@@ -9,33 +9,21 @@ use Rattle.task.specs.declared.Task.{Task}
 use Rattle.task.specs.declared.Turn.{Turn}
 use Rattle.machine.specs.declared.Change.{Change}
 use Rattle.machine.specs.declared.State.{State}
-use Rattle.machine.specs.Sets.{only, setOf}
+use Rattle.machine.specs.declared.Sets.{Sets}
+use Rattle.machine.specs.Sets.{setOf, mark, eachSet, noSets, onlyIn}
 
 pub record Work : Type 0 where
   pub now : Instant
   pub tasks : List Task
   pub locks : Locks
   pub enabled : List Bool
-  pub due : ℕ
-  pub started : ℕ
-  pub ended : ℕ
-  pub lost : ℕ
-  pub granted : ℕ
+  pub sets : Sets
 
 -- ---- one task and the locks
 
 -- The task has its turn.
 abbrev pub byTurn : Locks → Turn → Change
-byTurn l u =
-    record {
-      task = u .task;
-      locks = l;
-      due = u .due;
-      started = u .started;
-      ended = u .ended;
-      lost = u .lost;
-      granted = false;
-    }
+byTurn l u = record { task = u .task; locks = l; marks = u .marks }
 
 -- The task has no turn; it may be granted what it asked for.
 abbrev pub byLocks : Task → Locks → Bool → Change
@@ -43,11 +31,7 @@ byLocks t l g =
     record {
       task = t;
       locks = l;
-      due = false;
-      started = false;
-      ended = false;
-      lost = false;
-      granted = g;
+      marks = record { due = false; started = false; ended = false; lost = false; granted = g };
     }
 
 -- Task i is changed.
@@ -58,11 +42,7 @@ changed k i c =
       tasks = set (k .tasks) i (c .task);
       locks = c .locks;
       enabled = k .enabled;
-      due = only i (c .due);
-      started = only i (c .started);
-      ended = only i (c .ended);
-      lost = only i (c .lost);
-      granted = only i (c .granted);
+      sets = onlyIn i (c .marks);
     }
 
 -- ---- no task
@@ -75,11 +55,7 @@ onlyEnabled k is =
       tasks = k .tasks;
       locks = k .locks;
       enabled = is;
-      due = 0;
-      started = 0;
-      ended = 0;
-      lost = 0;
-      granted = 0;
+      sets = noSets;
     }
 
 -- ---- every task
@@ -96,9 +72,5 @@ everyTurn k n f =
       tasks = map (λ u. u .task) us ++ drop (k .counts .tasks) (k .tasks);
       locks = k .locks;
       enabled = k .enabled;
-      due = setOf (map (λ u. u .due) us);
-      started = setOf (map (λ u. u .started) us);
-      ended = setOf (map (λ u. u .ended) us);
-      lost = setOf (map (λ u. u .lost) us);
-      granted = 0;
+      sets = eachSet (λ x. setOf (map (λ u. mark x (u .marks)) us));
     }

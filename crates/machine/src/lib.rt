@@ -2,6 +2,7 @@
 use calendar::Instant;
 use lock::Locks;
 use lock::Wait;
+use task::Marks;
 use task::Task;
 
 pub const MOST_TASKS: u8 = 32;
@@ -30,11 +31,7 @@ pub enum Sort {
 pub struct Change {
     pub task: Task,
     pub locks: Locks,
-    pub due: bool,
-    pub started: bool,
-    pub ended: bool,
-    pub lost: bool,
-    pub granted: bool,
+    pub marks: Marks,
 }
 
 // How many of each kind are declared.
@@ -62,15 +59,20 @@ pub enum Running {
     Runs(u8),
 }
 
-// A number, 0 or a refusal; the running task; and sets of tasks in which task i counts 2^i.
-pub struct Answer {
-    pub number: u8,
-    pub running: Running,
+// Sets of tasks, in which task i counts 2^i.
+pub struct Sets {
     pub due: u32,
     pub started: u32,
     pub ended: u32,
     pub lost: u32,
     pub granted: u32,
+}
+
+// A number, 0 or a refusal; the running task; and the sets.
+pub struct Answer {
+    pub number: u8,
+    pub running: Running,
+    pub sets: Sets,
 }
 
 pub struct Stepped {

@@ -9,6 +9,7 @@ use kernel::Reply;
 use kernel::StartCondition;
 use lines::line_at;
 use machine::Answer;
+use serving::ends::plain;
 use task::Schedule;
 use task::Task;
 
@@ -33,15 +34,7 @@ fn show(r: Reply) -> Kernel
 // Prints the running task as the line of an accepted call.
 fn show_running(kernel: Kernel) {
     let running = kernel.running();
-    print_line(Answer {
-        number: 0,
-        running,
-        due: 0,
-        started: 0,
-        ended: 0,
-        lost: 0,
-        granted: 0,
-    });
+    print_line(plain(0, running));
 }
 
 // A start of a kind on interrupt 0, once.

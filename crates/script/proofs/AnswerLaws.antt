@@ -21,7 +21,8 @@ use Rattle.machine.specs.Sorts.{sortOf, runnerAt}
 use Rattle.machine.specs.Refusals.{declaredBy, declaredIn}
 use Rattle.machine.specs.Running.{runner}
 use Rattle.machine.specs.Serving.{Served, grantTo}
-use Rattle.machine.specs.Sets.{setOf}
+use Rattle.machine.specs.Sets.{Set, Due, Started, Ended, Lost, Granted, setOf, mark, members, eachSet, noSets, withGranted}
+use Rattle.machine.specs.declared.Sets.{Sets}
 use Rattle.machine.specs.State.{mostTasks, taskAt, enabledAt}
 use Rattle.machine.specs.Step.{refuse, finish, declared, carryOut, step}
 use Rattle.machine.specs.Work.{Work, changed, onlyEnabled, turns, everyTurn}
@@ -34,20 +35,29 @@ use Rattle.machine.specs.declared.Running.the-variants.{Idle, Runs}
 use Rattle.machine.proofs.Cases.{out-cases, step-cases}
 use Rattle.machine.proofs.Passed.{passed, tested}
 use Rattle.machine.proofs.Serving.{serve-keeps}
-use Rattle.machine.proofs.Sets.{only-lt, put-lt, setOf-lt}
+use Rattle.machine.proofs.SetLaws.{members-each, only-lt, put-lt, setOf-lt}
 use Rattle.machine.proofs.Urgency.{Below, runner-below}
 use Rattle.lines.specs.Lines.{RunningByte, InTypes}
 
 abbrev Word : ℕ → Type 0
 Word n = n < 2 ^ 32
 
--- The sets of a work are words.
-record Sized (w : Work) : Type 0 where
-  due : Word (w .due)
-  started : Word (w .started)
-  ended : Word (w .ended)
-  lost : Word (w .lost)
-  granted : Word (w .granted)
+-- Each of five sets is a word.
+abbrev Sized : Sets → Type 0
+Sized s = (x : Set) → Word (members x s)
+
+sized-each : (f : Set → ℕ) → ((x : Set) → Word (f x)) → Sized (eachSet f)
+sized-each f h x = rw (members-each x f) (h x)
+
+sized-regranted : (s : Sets) (g : ℕ) → Sized s → Word g → Sized (withGranted g s)
+sized-regranted s g h w Due = h Due
+sized-regranted s g h w Started = h Started
+sized-regranted s g h w Ended = h Ended
+sized-regranted s g h w Lost = h Lost
+sized-regranted s g h w Granted = w
+
+sized-empty : Sized noSets
+sized-empty = sized-each (λ x. 0) (λ x. omega arith)
 
 set-word : (g : Turn → Bool) (f : Task → Turn) (n : ℕ) (ts : List Task) → n ≤ mostTasks → Word (setOf (map g (turns n f ts)))
 set-word g f n ts h =
@@ -55,41 +65,27 @@ set-word g f n ts h =
     omega (arith, setOf-lt (map g (turns n f ts)), pow-mono l)
 
 module _ (k : State) where
-  sized-none : (is : List Bool) → Sized (onlyEnabled k is)
+  sized-none : (is : List Bool) → Sized (onlyEnabled k is .sets)
   unfolding onlyEnabled
-  sized-none is = record { due = omega arith; started = omega arith; ended = omega arith; lost = omega arith; granted = omega arith }
+  sized-none is = sized-empty
 
-  sized-one : (i : ℕ) (d : Change) → i < mostTasks → Sized (changed k i d)
+  sized-one : (i : ℕ) (d : Change) → i < mostTasks → Sized (changed k i d .sets)
   unfolding changed
-  sized-one i d h =
-      record {
-        due = only-lt 32 i (d .due) h;
-        started = only-lt 32 i (d .started) h;
-        ended = only-lt 32 i (d .ended) h;
-        lost = only-lt 32 i (d .lost) h;
-        granted = only-lt 32 i (d .granted) h;
-      }
+  sized-one i d h = sized-each _ (λ x. only-lt 32 i (mark x (d .marks)) h)
 
   module _ (few : k .counts .tasks ≤ mostTasks) where
-    sized-every : (n : Instant) (f : Task → Turn) → Sized (everyTurn k n f)
+    sized-every : (n : Instant) (f : Task → Turn) → Sized (everyTurn k n f .sets)
     unfolding everyTurn
-    sized-every n f =
-        record {
-          due = set-word (λ u. u .due) f (k .counts .tasks) (k .tasks) few;
-          started = set-word (λ u. u .started) f (k .counts .tasks) (k .tasks) few;
-          ended = set-word (λ u. u .ended) f (k .counts .tasks) (k .tasks) few;
-          lost = set-word (λ u. u .lost) f (k .counts .tasks) (k .tasks) few;
-          granted = omega arith;
-        }
+    sized-every n f = sized-each _ (λ x. set-word (λ u. mark x (u .marks)) f (k .counts .tasks) (k .tasks) few)
 
-    sized-runner : (f : ℕ → Change) → Sized (changed k (runnerAt (runner k)) (f (runnerAt (runner k))))
+    sized-runner : (f : ℕ → Change) → Sized (changed k (runnerAt (runner k)) (f (runnerAt (runner k))) .sets)
     sized-runner f = go (runner k) (runner-below k)
       where
-        go : (r : Running) → Below (k .counts .tasks) r → Sized (changed k (runnerAt r) (f (runnerAt r)))
+        go : (r : Running) → Below (k .counts .tasks) r → Sized (changed k (runnerAt r) (f (runnerAt r)) .sets)
         go Idle b = sized-one 0 (f 0) (omega arith)
         go (Runs i) b = sized-one i (f i) (omega arith)
 
-    sized-interrupt : (day : ℕ) (m : Mark) (i : ℕ) → Sized (interruptBy day m k i)
+    sized-interrupt : (day : ℕ) (m : Mark) (i : ℕ) → Sized (interruptBy day m k i .sets)
     unfolding interruptBy trigger
     sized-interrupt day m i =
         byBool (is m TG) (λ e. rw e (byBool (enabledAt k i) (λ e. rw e (sized-every _ _)) (λ e. rw e (sized-none (k .enabled)))))
@@ -99,7 +95,7 @@ module _ (k : State) where
     abbrev does : ℕ → Call → Sort → ℕ → Change
     does day c s i = changeOf (k .counts .tasks) (k .tasks) day s c (k .clock) (k .now) (taskAt (k .tasks) i) (k .locks)
 
-    sized-work : (day : ℕ) (c : Call) (s : Sort) → declaredBy s (k .counts) c ≡ true → Sized (workBy day s k c)
+    sized-work : (day : ℕ) (c : Call) (s : Sort) → declaredBy s (k .counts) c ≡ true → Sized (workBy day s k c .sets)
     unfolding workBy declaredBy tick
     sized-work day c Declaration e = sized-none (k .enabled)
     sized-work day c OneTask e =
@@ -114,19 +110,16 @@ module _ (k : State) where
     running-byte Idle b = tt
     running-byte (Runs i) b = omega arith
 
-    in-finish : (w : Work) → Sized w → InTypes (finish k w .answer)
+    in-finish : (w : Work) → Sized (w .sets) → InTypes (finish k w .answer)
     unfolding finish
     in-finish w s =
         record {
           number = omega arith;
           running = running-byte (finish k w .answer .running) (runner-below (finish k w .state));
-          due = s .due;
-          started = s .started;
-          ended = s .ended;
-          lost = s .lost;
-          granted =
-              serve-keeps (k .counts .tasks) (λ (p : Served). Word (p .granted))
-              (λ p j l e h. unfold grantTo in put-lt 32 j (p .granted) (omega arith) h) (k .counts .tasks) _ (s .granted);
+          sets =
+              sized-regranted (w .sets) _ s
+              (serve-keeps (k .counts .tasks) (λ (p : Served). Word (p .granted))
+              (λ p j l e h. unfold grantTo in put-lt 32 j (p .granted) (omega arith) h) (k .counts .tasks) _ (s Granted));
         }
 
     in-plain : (n : ℕ) → n ≤ 15 → InTypes (refuse k n (runner k) .answer)
@@ -135,11 +128,7 @@ module _ (k : State) where
         record {
           number = omega arith;
           running = running-byte (runner k) (runner-below k);
-          due = omega arith;
-          started = omega arith;
-          ended = omega arith;
-          lost = omega arith;
-          granted = omega arith;
+          sets = sized-empty;
         }
 
     in-declared : (d : State) → InTypes (declared k d .answer)
@@ -156,11 +145,7 @@ in-first k =
     record {
       number = omega arith;
       running = tt;
-      due = omega arith;
-      started = omega arith;
-      ended = omega arith;
-      lost = omega arith;
-      granted = omega arith;
+      sets = sized-empty;
     }
 
 pub answer-in-types : (day : ℕ) (k : State) (s : List ℕ) → InTypes (step day k s .answer)

@@ -5,16 +5,18 @@ ghost use Prim.Native.Nat.{_<_};
 ghost use Rattle.machine.specs.Granting.{servable};
 ghost use Rattle.machine.specs.Serving.{nextServed, grantTo};
 ghost use Rattle.machine.specs.Running.{someone};
+ghost use Rattle.machine.specs.Sets.{noSets};
 ghost use Rattle.machine.specs.State.{begunAt};
 ghost use Rattle.machine.specs.Step.{plainAnswer, finish};
 ghost use Rattle.machine.specs.Work.{onlyEnabled};
 ghost use Rattle.survey.specs.Looks.{waitsOk};
-ghost use Rattle.serving.specs.Ends.{served, withServed, servedOf, workHere, noMarks, answerOf};
+ghost use Rattle.serving.specs.Ends.{served, withServed, servedOf, workHere, answerOf};
 use calendar::Instant;
 use lock::Way;
 use lock::is_waiting;
 use machine::Answer;
 use machine::Running;
+use machine::Sets;
 use machine::State;
 use machine::Stepped;
 use survey::granting::Asker;
@@ -25,15 +27,6 @@ use survey::scan::places;
 use survey::scan::running;
 use survey::scan::urgency_of;
 use survey::sets::put_task;
-
-// The five sets of an answer.
-pub struct Marks {
-    pub due: u32,
-    pub started: u32,
-    pub ended: u32,
-    pub lost: u32,
-    pub granted: u32,
-}
 
 // A kernel whose waiting tasks have been served, and who was granted.
 pub struct Serviced {
@@ -143,25 +136,21 @@ pub fn begun_at(mut k: State, n: Instant) -> State
 }
 
 // An answer: its number, the running task, and the five sets.
-pub fn answer_of(number: u8, running: Running, m: Marks) -> Answer
-    ensures { λ a. ⌜ a ≡ answerOf number running m ⌝ }
+pub fn answer_of(number: u8, running: Running, sets: Sets) -> Answer
+    ensures { λ a. ⌜ a ≡ answerOf number running sets ⌝ }
 {
     Answer {
         number,
         running,
-        due: m.due,
-        started: m.started,
-        ended: m.ended,
-        lost: m.lost,
-        granted: m.granted,
+        sets,
     }
 }
 
 // Empty sets.
-pub fn no_marks() -> Marks
-    ensures { λ r. ⌜ r ≡ noMarks ⌝ }
+pub fn no_sets() -> Sets
+    ensures { λ r. ⌜ r ≡ noSets ⌝ }
 {
-    Marks {
+    Sets {
         due: 0,
         started: 0,
         ended: 0,
@@ -174,11 +163,11 @@ pub fn no_marks() -> Marks
 pub fn plain(number: u8, running: Running) -> Answer
     ensures { λ r. ⌜ r ≡ plainAnswer number running ⌝ }
 {
-    answer_of(number, running, no_marks())
+    answer_of(number, running, no_sets())
 }
 
 // The end of a call after which some task waits: it may have to be served.
-fn finished_serving(k: State, m: Marks) -> Stepped
+fn finished_serving(k: State, m: Sets) -> Stepped
     requires { ⌜ waitsOk k ≡ true ⌝ }
     ensures { λ r. ⌜ r ≡ finish k (workHere k m) ⌝ }
 {
@@ -188,13 +177,13 @@ fn finished_serving(k: State, m: Marks) -> Stepped
     let runner = running(next);
     Stepped {
         state: begun_at(next, k.now),
-        answer: answer_of(0, runner, Marks { granted, ..m }),
+        answer: answer_of(0, runner, Sets { granted, ..m }),
     }
 }
 
-// Every accepted call but a tick ends so. The kernel has had its work done, and the marks say what was done. Where
+// Every accepted call but a tick ends so. The kernel has had its work done, and the sets say whom it marked. Where
 // nobody waits or none that waits could be granted, there is nobody to serve.
-pub fn finished(k: State, m: Marks) -> Stepped
+pub fn finished(k: State, m: Sets) -> Stepped
     requires { ⌜ waitsOk k ≡ true ⌝ }
     ensures { λ r. ⌜ r ≡ finish k (workHere k m) ⌝ }
 {
@@ -227,5 +216,5 @@ pub fn done(k: State) -> Stepped
     requires { ⌜ waitsOk k ≡ true ⌝ }
     ensures { λ s. ⌜ s ≡ finish k (onlyEnabled k (k .enabled)) ⌝ }
 {
-    finished(k, no_marks())
+    finished(k, no_sets())
 }

@@ -51,6 +51,7 @@ fair-unmarked t t′ h =
       starts = rw (h .kept) (omega arith);
       ends = rw (h .alive) (omega arith);
       lost = simp tests;
+      granted = refl;
       waits = rw (h .wait) (simp tests);
       wants = λ e. (h .wait, h .wants);
     }
@@ -62,6 +63,7 @@ fair-after p t t′ u h f =
       starts = rw (h .kept) at (f .starts);
       ends = rw (h .alive) at (f .ends);
       lost = rw (h .kept, h .alive) at (f .lost);
+      granted = f .granted;
       waits = rw (h .wait) at (f .waits);
       wants = λ e. (f .wants e .0 ∙ h .wait, f .wants e .1 ∙ h .wants);
     }
@@ -76,13 +78,14 @@ fair-dueIf false k p t ea ek r =
       starts = rw (q .0);
       ends = rw ea;
       lost = rw (q .0);
+      granted = refl;
       waits = rw (q .1);
       wants = λ e. contra e refl;
     }
 fair-dueIf true Empty p t ea ek r =
-    record { starts = rw ek; ends = rw ea; lost = rw ek; waits = simp tests; wants = λ e. (refl, refl) }
+    record { starts = rw ek; ends = rw ea; lost = rw ek; granted = refl; waits = simp tests; wants = λ e. (refl, refl) }
 fair-dueIf true (Back q) p t ea ek r =
-    record { starts = rw ek; ends = rw ea; lost = rw (ek, ea); waits = simp tests; wants = λ e. (refl, refl) }
+    record { starts = rw ek; ends = rw ea; lost = rw (ek, ea); granted = refl; waits = simp tests; wants = λ e. (refl, refl) }
 
 pub fair-due : (p : ℕ) (t : Task) → restOk t ≡ true → Fair false t (dueTurn p t)
 fair-due p t r = fair-dueIf (t .alive) (t .kept) p t refl refl r
@@ -90,9 +93,9 @@ fair-due p t r = fair-dueIf (t .alive) (t .kept) p t refl refl r
 fair-endIf : (k : Kept) (t : Task) → t .kept ≡ k → t .alive ≡ true → Fair false t (endIf k t)
 unfolding endIf
 fair-endIf Empty t e a =
-    record { starts = rw e; ends = rw a; lost = rw e; waits = simp tests; wants = λ z. contra z refl }
+    record { starts = rw e; ends = rw a; lost = rw e; granted = refl; waits = simp tests; wants = λ z. contra z refl }
 fair-endIf (Back p) t e a =
-    record { starts = rw e; ends = rw a; lost = rw e; waits = simp tests; wants = λ z. contra z refl }
+    record { starts = rw e; ends = rw a; lost = rw e; granted = refl; waits = simp tests; wants = λ z. contra z refl }
 
 pub fair-end : (t : Task) → t .alive ≡ true → Fair false t (endTurn t)
 fair-end t a = fair-endIf (t .kept) t refl a
@@ -104,6 +107,7 @@ fair-prevent t =
       starts = omega arith;
       ends = omega arith;
       lost = simp tests;
+      granted = refl;
       waits = simp tests;
       wants = λ e. (refl, refl);
     }

@@ -20,13 +20,15 @@ use Rattle.task.specs.Turns.{unmarked, dueTurn, endTurn, preventTurn, su
 -- A turn is fair; p says whether it is that of a PREVENT.
 pub record Fair (p : Bool) (t : Task) (u : Turn) : Type 0 where
   -- what was kept back and what falls due is made, lost or kept back
-  pub starts : bit (isKept (t .kept)) + bit (u .due) ≡ bit (u .started) + bit (u .lost) + bit (isKept (u .task .kept))
+  pub starts : bit (isKept (t .kept)) + bit (u .marks .due) ≡ bit (u .marks .started) + bit (u .marks .lost) + bit (isKept (u .task .kept))
   -- what was alive and what starts has ended or is alive
-  pub ends : bit (t .alive) + bit (u .started) ≡ bit (u .ended) + bit (u .task .alive)
+  pub ends : bit (t .alive) + bit (u .marks .started) ≡ bit (u .marks .ended) + bit (u .task .alive)
   -- a loss has one of two causes, and each of them is a loss
-  pub lost : u .lost ≡ (isKept (t .kept) && ((u .due && t .alive) || p))
+  pub lost : u .marks .lost ≡ (isKept (t .kept) && ((u .marks .due && t .alive) || p))
+  -- and none grants
+  pub granted : u .marks .granted ≡ false
   -- a wait goes on, with its list, until the task ends
-  pub waits : waiting (u .task .wait) ≡ (waiting (t .wait) && not (u .ended))
+  pub waits : waiting (u .task .wait) ≡ (waiting (t .wait) && not (u .marks .ended))
   pub wants : waiting (u .task .wait) ≡ true → (u .task .wait ≡ t .wait) × (wanted (u .task) ≡ wanted t)
 
 -- Every turn is fair; a trigger's and an activation's are a due's, a schedule's, or none of their own.

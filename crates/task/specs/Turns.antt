@@ -16,9 +16,13 @@ use Rattle.task.specs.Alarms.{falls, listens}
 use Rattle.task.specs.Schedules.{advance, triggered}
 use Rattle.task.specs.Coming.{delayEnd}
 
+-- A turn's marks: due, started, ended, lost. No turn grants.
+abbrev pub marked : Bool → Bool → Bool → Bool → Task → Turn
+marked d s e l t = record { task = t; marks = record { due = d; started = s; ended = e; lost = l; granted = false } }
+
 -- A turn that marks nothing.
 abbrev pub unmarked : Task → Turn
-unmarked t = record { task = t; due = false; started = false; ended = false; lost = false }
+unmarked t = marked false false false false t
 
 -- Unheld, waiting for nothing, with no start kept back.
 abbrev pub cleared : Task → Task
@@ -35,17 +39,17 @@ terminated t = withAlive false (withCurrent (t .declared) (cleared t))
 -- ---- due and end
 
 unfoldable pub dueIf : Bool → Kept → ℕ → Task → Turn
-dueIf false kept p t = record { task = running p t; due = true; started = true; ended = false; lost = false }
-dueIf true Empty p t = record { task = withKept (Back p) t; due = true; started = false; ended = false; lost = false }
-dueIf true (Back q) p t = record { task = t; due = true; started = false; ended = false; lost = true }
+dueIf false kept p t = marked true true false false (running p t)
+dueIf true Empty p t = marked true false false false (withKept (Back p) t)
+dueIf true (Back q) p t = marked true false false true t
 
 -- A start with priority p falls due: it is made, kept back or lost.
 abbrev pub dueTurn : ℕ → Task → Turn
 dueTurn p t = dueIf (t .alive) (t .kept) p t
 
 unfoldable pub endIf : Kept → Task → Turn
-endIf Empty t = record { task = terminated t; due = false; started = false; ended = true; lost = false }
-endIf (Back p) t = record { task = running p t; due = false; started = true; ended = true; lost = false }
+endIf Empty t = marked false false true false (terminated t)
+endIf (Back p) t = marked false true true false (running p t)
 
 -- TERMINATE, and the end of the running task. A start kept back starts.
 abbrev pub endTurn : Task → Turn
@@ -53,14 +57,7 @@ endTurn t = endIf (t .kept) t
 
 -- PREVENT removes the schedule and the start kept back, which is lost.
 unfoldable pub preventTurn : Task → Turn
-preventTurn t =
-    record {
-      task = withSchedule noSchedule (withKept Empty t);
-      due = false;
-      started = false;
-      ended = false;
-      lost = isKept (t .kept);
-    }
+preventTurn t = marked false false false (isKept (t .kept)) (withSchedule noSchedule (withKept Empty t))
 
 -- ---- holds
 

@@ -58,11 +58,17 @@ pub struct Task {
     pub schedule: Schedule,
 }
 
-// What happens to one task in a call: the next task, and which sets have it.
-pub struct Turn {
-    pub task: Task,
+// Which of an answer's five sets have a task.
+pub struct Marks {
     pub due: bool,
     pub started: bool,
     pub ended: bool,
     pub lost: bool,
+    pub granted: bool,
+}
+
+// What happens to one task in a call.
+pub struct Turn {
+    pub task: Task,
+    pub marks: Marks,
 }

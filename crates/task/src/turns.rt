@@ -4,9 +4,10 @@ ghost use Prim.Native.Nat.{_≤_};
 ghost use Rattle.calendar.specs.Limits.{day, lastInstant, mostInstant};
 ghost use Rattle.task.specs.State.{runnable, waitOver, waitFor, unheld, suspended, isKept, withCurrent, withAlive, withKept, withHold, withSchedule};
 ghost use Rattle.task.specs.Alarms.{listens};
-ghost use Rattle.task.specs.Turns.{unmarked, cleared, dueTurn, endTurn, preventTurn, orElse, suspendTurn, continueTurn, resumeTurn, delayEnds, wake, fallTurn, tickTurn, scheduleTurn, triggerTurn};
+ghost use Rattle.task.specs.Turns.{marked, unmarked, cleared, dueTurn, endTurn, preventTurn, orElse, suspendTurn, continueTurn, resumeTurn, delayEnds, wake, fallTurn, tickTurn, scheduleTurn, triggerTurn};
 use crate::Hold;
 use crate::Kept;
+use crate::Marks;
 use crate::Schedule;
 use crate::Task;
 use crate::Turn;
@@ -66,30 +67,26 @@ pub fn or_else(given: u8, other: u8) -> u8
 }
 
 impl Turn {
-    // A task and its marks.
+    // A task and its marks; no turn grants.
     fn marked(task: Task, due: bool, started: bool, ended: bool, lost: bool) -> Turn
-        ensures { λ r. ⌜ r ≡ record { task = task; due = due; started = started; ended = ended; lost = lost } ⌝ }
+        ensures { λ r. ⌜ r ≡ marked due started ended lost task ⌝ }
     {
-        Turn {
-            task,
+        let granted = false;
+        let marks = Marks {
             due,
             started,
             ended,
             lost,
-        }
+            granted,
+        };
+        Turn { task, marks }
     }
 
     // A turn that marks nothing.
     pub fn unmarked(task: Task) -> Turn
         ensures { λ r. ⌜ r ≡ unmarked task ⌝ }
     {
-        Turn {
-            task,
-            due: false,
-            started: false,
-            ended: false,
-            lost: false,
-        }
+        Turn::marked(task, false, false, false, false)
     }
 }
 

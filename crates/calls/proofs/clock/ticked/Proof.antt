@@ -25,7 +25,6 @@ use Rattle.machine.specs.declared.State.{State}
 use Rattle.machine.specs.declared.Running.{Running}
 use Rattle.machine.proofs.Passed.{tested}
 use Rattle.survey.proofs.Owned.{Owned, tasks-long}
-use Rattle.serving.specs.Ends.{marksOf}
 use Rattle.calls.proofs.EveryTask.{Made, made-none, made-all, made-more, made-still, every-idle, every-unserved, tick-early, tick-late}
 use Rattle.calls.proofs.TickRuns.{Leading, leading-none, leading-from, leading-more, leading-still, runs-below}
 use Rattle.calls.proofs.clock.ticked.Statement.{statement}
@@ -96,7 +95,7 @@ abbrev here : J → I
 here c = c .before .before .before .before .before .before
 
 made : (c : J) → let l = here c in
-    Made (tickTurn (moment (passed l))) (state (passed l)) (l .before .loop .i + 1) (c .if2 .k) (c .if2 .m)
+    Made (tickTurn (moment (passed l))) (state (passed l)) (l .before .loop .i + 1) (c .if2 .k) (c .if2 .s)
 made c =
     let l = here c in
     let k = state (passed l) in
@@ -126,7 +125,7 @@ led c =
 all : (c : tie.After-loop Inv-loop μ-loop) → let p = c .before .before .before .before .before .before .before in
     let k = state p in
     let w = everyTurn k (moment p) (tickTurn (moment p)) in
-    (c .before .loop .k ≡ withState (w .tasks) (k .locks) (k .enabled) k) × (c .before .loop .m ≡ marksOf w)
+    (c .before .loop .k ≡ withState (w .tasks) (k .locks) (k .enabled) k) × (c .before .loop .s ≡ w .sets)
 all c =
     let l = c .before in
     made-all (tickTurn _) _ _ (le-antisymm (l .loop .inv .0) (c .loop-test .left)) (l .loop .inv .1)
@@ -156,8 +155,8 @@ plus-requires c κs = search needs
 cast-most : tie.Need-cast-most Inv-loop μ-loop
 cast-most c = search needs
 
-no-marks-requires : tie.Need-no-marks-requires Inv-loop μ-loop
-no-marks-requires c κs = search needs
+no-sets-requires : tie.Need-no-sets-requires Inv-loop μ-loop
+no-sets-requires c κs = search needs
 
 no-lead-requires : tie.Need-no-lead-requires Inv-loop μ-loop
 no-lead-requires c κs = search needs
@@ -186,7 +185,7 @@ loop-holds c =
     let p = o .before .before .before .before in
     let k = state p in (
       search needs,
-      rw (o .before .no-marks .ensures) (made-none _ _),
+      rw (o .before .no-sets .ensures) (made-none _ _),
       ⊎-elim
           (λ w. leading-from (k .tasks) (k .counts .tasks) (w .1 .given .0 .0) (tasks-long k (good p)) (runner-is p (w .1 .given .1)) (o .no-lead .ensures) (rw (w .4) (w .3 .ensures)))
           (λ w. leading-none (k .tasks) (k .counts .tasks) (tasks-long k (good p)) (runner-is p (w .1 .given .1)) (w .2 ∙ o .no-lead .ensures))
@@ -220,8 +219,8 @@ mul-after c = omega (arith, inside (c .before .before .before .before .before .b
 element-set-from-after : tie.Need-element-set-from-after Inv-loop μ-loop
 element-set-from-after c = omega (arith, inside (c .before .before .before .before .before .before .before .before .before))
 
-marked-requires : tie.Need-marked-requires Inv-loop μ-loop
-marked-requires c κs = omega (arith, inside (c .before .before .before .before .before .before .before .before .before))
+put-marks-requires : tie.Need-put-marks-requires Inv-loop μ-loop
+put-marks-requires c κs = omega (arith, inside (c .before .before .before .before .before .before .before .before .before))
 
 is-runnable-requires : tie.Need-is-runnable-requires Inv-loop μ-loop
 is-runnable-requires c κs = search needs
@@ -269,7 +268,7 @@ ticked-spec =
     returns
     plus-requires
     cast-most
-    no-marks-requires
+    no-sets-requires
     no-lead-requires
     enum-known-r
     cast-at
@@ -287,7 +286,7 @@ ticked-spec =
     tick-requires
     mul-after
     element-set-from-after
-    marked-requires
+    put-marks-requires
     is-runnable-requires
     against-if-requires-2
     add-i

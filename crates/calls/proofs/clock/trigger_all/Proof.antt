@@ -23,11 +23,11 @@ abbrev μ-loop : tie.MeasureT-loop
 cast-most : tie.Need-cast-most Inv-loop μ-loop
 cast-most c = search needs
 
-no-marks-requires : tie.Need-no-marks-requires Inv-loop μ-loop
-no-marks-requires c κs = search needs
+no-sets-requires : tie.Need-no-sets-requires Inv-loop μ-loop
+no-sets-requires c κs = search needs
 
 loop-holds : tie.Need-loop-holds Inv-loop μ-loop
-loop-holds c = (search needs, rw (c .no-marks .ensures) (made-none _ _))
+loop-holds c = (search needs, rw (c .no-sets .ensures) (made-none _ _))
 
 mul-t : tie.Need-mul-t Inv-loop μ-loop
 mul-t c = search needs
@@ -47,8 +47,8 @@ mul-after c = omega (arith, c .before .before .before .before .before .loop-test
 element-set-from-after : tie.Need-element-set-from-after Inv-loop μ-loop
 element-set-from-after c = omega (arith, c .before .before .before .before .before .loop-test .taken, c .before .before .before .before .before .before .before .before .before .before .before .pre .0)
 
-marked-requires : tie.Need-marked-requires Inv-loop μ-loop
-marked-requires c κs = omega (arith, c .before .before .before .before .before .loop-test .taken, c .before .before .before .before .before .before .before .before .before .before .before .pre .0)
+put-marks-requires : tie.Need-put-marks-requires Inv-loop μ-loop
+put-marks-requires c κs = omega (arith, c .before .before .before .before .before .loop-test .taken, c .before .before .before .before .before .before .before .before .before .before .before .pre .0)
 
 add-i : tie.Need-add-i Inv-loop μ-loop
 add-i c = search needs
@@ -83,7 +83,7 @@ trigger-all-spec =
     Inv-loop
     μ-loop
     cast-most
-    no-marks-requires
+    no-sets-requires
     loop-holds
     mul-t
     element-copy-out-t
@@ -91,7 +91,7 @@ trigger-all-spec =
     trigger-requires
     mul-after
     element-set-from-after
-    marked-requires
+    put-marks-requires
     add-i
     loop-less
     loop-again

@@ -133,12 +133,12 @@ mul-task c = omega (arith, placed (at (c .before .before .before .before .before
 element-set-from-task : tie.Need-element-set-from-task
 element-set-from-task c = placed (at (c .before .before .before .before .before .before .before))
 
-marks-of-requires : tie.Need-marks-of-requires
-marks-of-requires c κs = placed (at (c .before .before .before .before .before .before .before))
+put-marks-requires : tie.Need-put-marks-requires
+put-marks-requires c κs = placed (at (c .before .before .before .before .before .before .before .before))
 
 finished-requires : tie.Need-finished-requires
 finished-requires c κs =
-    let x = c .before .before .before in
+    let x = c .before .before .before .before in
     let o = x .before in
     let e = o .before .before .before .before in
     let s = start e in
@@ -147,13 +147,13 @@ finished-requires c κs =
 
 returns-5 : tie.Need-returns-5
 returns-5 c =
-    let x = c .before .before .before .before in
+    let x = c .before .before .before .before .before in
     let o = x .before in
     let e = o .before .before .before .before in
     let s = start e in
     let a = s .args in
     c .finished .ensures
-    ∙ change-done day (a .t1) (a .h) (a .list) (s .pre .0) (s .pre .1 .1) (passed e) (sorted (at e)) (about o) (here e) (x .change-of .ensures (a .t1 .counts .tasks) (a .t1 .tasks)) (call e) (c .before .marks-of .ensures)
+    ∙ change-done day (a .t1) (a .h) (a .list) (s .pre .0) (s .pre .1 .1) (passed e) (sorted (at e)) (about o) (here e) (x .change-of .ensures (a .t1 .counts .tasks) (a .t1 .tasks)) (call e) (c .before .before .no-sets .ensures) (c .before .put-marks .ensures)
 
 pub carry-out-spec : {M : Type 1} → statement M
 carry-out-spec =
@@ -178,6 +178,7 @@ carry-out-spec =
     change-of-requires
     mul-task
     element-set-from-task
-    marks-of-requires
+    (λ c κs. search needs)
+    put-marks-requires
     finished-requires
     returns-5)

@@ -1,12 +1,14 @@
 -- A tick goes its own way; then the formal refusals, then the rest.
 use borrow.Author.Needs.{needs}
 use mathlib.Core.Path.{sym, ap, _∙_}
+use Prim.Native.Nat.{ℕ}
 use denote.Ref.{now}
 use Rattle.calendar.specs.Limits.{day}
 use Rattle.layout.specs.Fields.{callOf}
 use Rattle.layout.specs.declared.Mark.the-variants.{TI}
+use Rattle.record.specs.Reading.{numberOf}
 use Rattle.machine.specs.Scripts.{oneTick}
-use Rattle.machine.specs.Step.{step}
+use Rattle.machine.specs.Step.{refuse, step}
 use Rattle.machine.proofs.Quiet.{tick-step}
 use Rattle.survey.proofs.Owned.{tasks-long}
 use Rattle.calls.proofs.StirLaws.{tick-bytes}
@@ -27,19 +29,22 @@ carry-out-requires : tie.Need-carry-out-requires
 carry-out-requires c κs =
     let o = c .before .before .before .before in
     let s = o .before .before .before .before .before in
-    (s .pre .0, (s .pre .1, admitted-formal day _ _ _ (o .admit .ensures) (c .before .answer2 .given .1)))
+    (s .pre .0, (s .pre .1, admitted-formal day _ _ _ (o .admit .ensures) (c .before .answer .given .1)))
 
 returns-2 : tie.Need-returns-2
 returns-2 c =
-    let o = c .before .before .before .before .before in
+    let n = c .before in
+    let o = n .before .before .before .before in
     let s = o .before .before .before .before .before in
-    c .answered .ensures ∙ step-refused day _ _ (s .pre .0) (o .admit .ensures) (c .before .before .answer .given .1) (s .pre .1)
+    let e = n .before .enum-told .given .1 in
+    c .answered .ensures ∙ ap (λ (m : ℕ). refuse (s .args .k) m (s .args .r)) (n .number-of .ensures ∙ ap numberOf e)
+    ∙ step-refused day _ _ (s .pre .0) (o .admit .ensures) e (s .pre .1)
 
 returns-3 : tie.Need-returns-3
 returns-3 c =
     let o = c .before .before .before .before .before in
     let s = o .before .before .before .before .before in
-    c .carry-out .ensures ∙ step-admitted day _ _ (s .pre .0) (o .admit .ensures) (c .before .before .answer2 .given .1)
+    c .carry-out .ensures ∙ step-admitted day _ _ (s .pre .0) (o .admit .ensures) (c .before .before .answer .given .1)
 
 pub step-on-spec : {M : Type 1} → statement M
 step-on-spec =
@@ -50,8 +55,9 @@ step-on-spec =
     returns
     (λ c κs. search needs)
     (λ c. search needs)
-    (λ c κs. search needs)
     (λ c. search needs)
-    carry-out-requires
+    (λ c κs. search needs)
+    (λ c κs. search needs)
     returns-2
+    carry-out-requires
     returns-3)

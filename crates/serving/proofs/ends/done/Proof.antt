@@ -7,8 +7,8 @@ use Rattle.serving.specs.Ends.{workHere}
 use Rattle.serving.proofs.ends.done.Statement.{statement}
 use Rattle.serving.proofs.ends.done.Tie as tie
 
-no-marks-requires : tie.Need-no-marks-requires
-no-marks-requires c κs = search needs
+no-sets-requires : tie.Need-no-sets-requires
+no-sets-requires c κs = search needs
 
 finished-requires : tie.Need-finished-requires
 finished-requires c κs = search needs
@@ -17,7 +17,7 @@ returns : tie.Need-returns
 unfolding onlyEnabled
 returns c =
     let k = c .before .before .args .k in
-    c .finished .ensures ∙ ap (λ m. finish k (workHere k m)) (c .before .no-marks .ensures)
+    c .finished .ensures ∙ ap (λ m. finish k (workHere k m)) (c .before .no-sets .ensures)
 
 pub done-spec : {M : Type 1} → statement M
-done-spec = tie.close (tie.spec no-marks-requires finished-requires returns)
+done-spec = tie.close (tie.spec no-sets-requires finished-requires returns)

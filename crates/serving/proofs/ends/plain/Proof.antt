@@ -3,14 +3,14 @@ use borrow.Author.Needs.{needs}
 use Rattle.serving.proofs.ends.plain.Statement.{statement}
 use Rattle.serving.proofs.ends.plain.Tie as tie
 
-no-marks-requires : tie.Need-no-marks-requires
-no-marks-requires c κs = search needs
+no-sets-requires : tie.Need-no-sets-requires
+no-sets-requires c κs = search needs
 
 answer-of-requires : tie.Need-answer-of-requires
 answer-of-requires c κs = search needs
 
 returns : tie.Need-returns
-returns c = rw (c .answer-of .ensures, c .before .no-marks .ensures)
+returns c = rw (c .answer-of .ensures, c .before .no-sets .ensures)
 
 pub plain-spec : {M : Type 1} → statement M
-plain-spec = tie.close (tie.spec no-marks-requires answer-of-requires returns)
+plain-spec = tie.close (tie.spec no-sets-requires answer-of-requires returns)

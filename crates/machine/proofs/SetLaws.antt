@@ -9,7 +9,35 @@ use native.Mathlib.Omega.{arith}
 use lib.Bits.{bitOr, or-shr, or-step, or-lt}
 use lib.ListN.{getD, length}
 use Rattle.lock.specs.Locks.{bit}
-use Rattle.machine.specs.Sets.{has, only, put, setOf}
+use Rattle.task.specs.Turns.{unmarked}
+use Rattle.task.specs.declared.Task.{Task}
+use Rattle.machine.specs.Sets.{Set, Due, Started, Ended, Lost, Granted, has, only, put, setOf, mark, members, eachSet, noSets}
+
+-- ---- the five
+
+pub members-each : (x : Set) (f : Set → ℕ) → members x (eachSet f) ≡ f x
+members-each Due f = refl
+members-each Started f = refl
+members-each Ended f = refl
+members-each Lost f = refl
+members-each Granted f = refl
+
+pub no-members : (x : Set) → members x noSets ≡ 0
+no-members x = members-each x (λ y. 0)
+
+-- What one rule makes of each, another one makes.
+pub each-same : (f g : Set → ℕ) → ((x : Set) → f x ≡ g x) → eachSet f ≡ eachSet g
+each-same f g e = rw (e Due, e Started, e Ended, e Lost, e Granted)
+
+-- A task without marks is in no set.
+pub unmarked-none : (x : Set) (t : Task) → mark x (unmarked t .marks) ≡ false
+unmarked-none Due t = refl
+unmarked-none Started t = refl
+unmarked-none Ended t = refl
+unmarked-none Lost t = refl
+unmarked-none Granted t = refl
+
+-- ---- one set
 
 pub has-zero : (n : ℕ) → has 0 n ≡ n % 2
 unfolding has
