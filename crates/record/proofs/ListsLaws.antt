@@ -1,22 +1,20 @@
 -- Scans of a list from the front, for any length: what is left after i elements, and what the element at i decides.
-use mathlib.Core.Path.{_≡_}
-use mathlib.Core.Bool.{true, false}
+use mathlib.Core.Path.{_≡_, refl}
+use mathlib.Core.Bool.{Bool, true, false, _&&_}
 use mathlib.Core.List.{List}
 use Prim.Native.Nat.{ℕ, _+_, _≤_, _<_}
 use native.Mathlib.Numerals.{add-one}
 use borrow.Author.Tests.{eq-eqb, ne-eqb}
+use lib.Dec.{eqb}
 use lib.ListN.{length, drop, getD, drop-of-length-le}
 use lib.Seq.{drop-cons}
 use Rattle.record.specs.Lists.{allZero, names, distinct}
 
 module _ (s : List ℕ) (i : ℕ) (inside : i < length s) where
-  pub zero-stop : (getD s i 0 ≡ 0 → ⊥) → allZero (drop i s) ≡ false
+  pub zero-more : (ok : Bool) → (ok && allZero (drop i s)) ≡ ((ok && eqb (getD s i 0) 0) && allZero (drop (i + 1) s))
   unfolding allZero
-  zero-stop e = rw (drop-cons s i 0, ne-eqb (getD s i 0) 0)
-
-  pub zero-go : getD s i 0 ≡ 0 → allZero (drop i s) ≡ allZero (drop (i + 1) s)
-  unfolding allZero
-  zero-go e = rw (add-one, drop-cons s i 0, eq-eqb (getD s i 0) 0)
+  zero-more true = rw (add-one, drop-cons s i 0)
+  zero-more false = refl
 
   module _ (x : ℕ) where
     pub named-stop : getD s i 0 ≡ x → names (drop i s) x ≡ true

@@ -5,18 +5,17 @@ ghost use lib.ListN.{take};
 ghost use Rattle.record.specs.Lists.{allZero, names, distinct};
 use layout::Numbers;
 
-// Whether each number is 0.
+// Whether each number is 0. Every one is looked at, so that the machine can look at many at once.
 pub fn zeros(s: &[u8]) -> bool
     ensures { λ r. ⌜ r ≡ allZero (now (s .entry)) ⌝ }
 {
+    let mut ok = true;
     let mut i = 0;
     while i < s.len() {
-        if s[i] != 0 {
-            return false;
-        }
+        ok = ok & (s[i] == 0);
         i += 1;
     }
-    true
+    ok
 }
 
 // Whether a list names x.
