@@ -29,20 +29,20 @@ pub leads-nobody : (u : ℕ → ℕ) → Leads u Idle noLead
 unfolding leadOf whose
 leads-nobody u = record { lead = refl; who = refl }
 
-pub leads-one : (u : ℕ → ℕ) (i : ℕ) → u i < nobody → Leads u (Runs i) (record { urgency = u i; task = i })
+pub leads-one : (u : ℕ → ℕ) (i : ℕ) → i < mostTasks → Leads u (Runs i) (record { urgency = u i; task = i })
 unfolding leadOf whose
-leads-one u i b = record { lead = refl; who = rw (lt-leb _ _ b) }
+leads-one u i p = record { lead = refl; who = rw (lt-leb _ _ p) }
 
 pub led-none : (test : ℕ → Bool) (ts : List Task) {l : Lead} → l ≡ noLead → Led 0 test ts l
 unfolding mostUrgent
 led-none test ts e = rw e (leads-nobody (urgency ts))
 
 -- A task that counts is held against the lead.
-leads-better : (u : ℕ → ℕ) (i : ℕ) → u i < nobody → (r : Running) (l : Lead) → Leads u r l → Leads u (better u r i) (against l true (u i) i)
+leads-better : (u : ℕ → ℕ) (i : ℕ) → i < mostTasks → u i < nobody → (r : Running) (l : Lead) → Leads u r l → Leads u (better u r i) (against l true (u i) i)
 unfolding leadOf against
-leads-better u i b Idle l h = rw (h .lead, lt-ltb _ _ b) (leads-one u i b)
-leads-better u i b (Runs j) l h =
-    byBool (ltb (u i) (u j)) (λ e. rw (h .lead, e) (leads-one u i b)) (λ e. rw (h .lead, e) (rw (h .lead) at h))
+leads-better u i p b Idle l h = rw (h .lead, lt-ltb _ _ b) (leads-one u i p)
+leads-better u i p b (Runs j) l h =
+    byBool (ltb (u i) (u j)) (λ e. rw (h .lead, e) (leads-one u i p)) (λ e. rw (h .lead, e) (rw (h .lead) at h))
 
 module _ (test : ℕ → Bool) (ts : List Task) (i : ℕ) where
   pub led-passed : {l : Lead} → test i ≡ false → Led i test ts l → Led (i + 1) test ts l
@@ -54,12 +54,12 @@ module _ (test : ℕ → Bool) (ts : List Task) (i : ℕ) where
   unfolding urgency mostUrgent against
   led-more {lead = lead} e h q =
       byBool (test i)
-      (λ t. rw (q .lead, e, add-one, t) (leads-better (urgency ts) i (q .small) _ lead h))
+      (λ t. rw (q .lead, e, add-one, t) (leads-better (urgency ts) i (q .place) (q .small) _ lead h))
       (λ t. rw (q .lead, e, add-one, t) h)
 
 -- With the urgency u as it was found.
-pub weighed : {l r : Lead} {b : Bool} {u v i : ℕ} → (u ≡ v) × (u < nobody) → r ≡ against l b u i → Weighed l b v i r
-weighed e q = record { small = rw (e .0) at (e .1); lead = q ∙ rw (e .0) }
+pub weighed : {l r : Lead} {b : Bool} {u v i : ℕ} → i < mostTasks → (u ≡ v) × (u < nobody) → r ≡ against l b u i → Weighed l b v i r
+weighed p e q = record { place = p; small = rw (e .0) at (e .1); lead = q ∙ rw (e .0) }
 
 -- A task that is no more urgent leaves the lead as it was.
 pub against-later : (l : Lead) (b : Bool) (u i : ℕ) → l .urgency ≤ u → against l b u i ≡ l

@@ -1,6 +1,7 @@
 -- The survey of a kernel: what one task adds, and what the whole says.
 use mathlib.Core.Path.{_≡_, refl, _∙_}
-use mathlib.Core.Bool.{Bool, true, false}
+use mathlib.Core.Bool.{true, false}
+use mathlib.Core.List.{List}
 use Prim.Native.Nat.{ℕ, _+_, _*_, _≤_, _<_}
 use native.Mathlib.Nat.{le-antisymm}
 use Rattle.calendar.specs.Moments.{sooner}
@@ -9,6 +10,7 @@ use Rattle.calendar.specs.declared.Moment.{Moment}
 use Rattle.calendar.specs.declared.Moment.the-variants.{Never}
 use Rattle.lock.proofs.Bools.{byBool}
 use Rattle.task.specs.Coming.{delayEnd, nextStart}
+use Rattle.task.specs.declared.Task.{Task}
 use Rattle.machine.specs.State.{mostTasks, taskAt}
 use Rattle.machine.specs.NextEvent.{nextEvent}
 use Rattle.machine.specs.Running.{runningOf, runner}
@@ -16,11 +18,12 @@ use Rattle.machine.specs.Test.{valid}
 use Rattle.machine.specs.declared.State.{State}
 use Rattle.machine.specs.declared.Running.{Running}
 use Rattle.survey.specs.Leads.{noLead, Weighed, whose}
-use Rattle.survey.specs.Looks.{unfit, surveyed}
+use Rattle.survey.specs.Looks.{atEase, unfit, surveyed}
 use Rattle.survey.specs.Next.{momentOf}
 use Rattle.survey.specs.declared.scan.Lead.{Lead}
-use Rattle.survey.proofs.LeadLaws.{Led, canRun, led-none, led-more}
+use Rattle.survey.proofs.LeadLaws.{Led, canRun, led-none, led-more, led-passed}
 use Rattle.survey.proofs.NextLaws.{nextAmong, among-none, among-more, among-all}
+use Rattle.survey.proofs.TaskFit.{eased-runs, busy-rests}
 use Rattle.survey.proofs.TestLaws.{fitAt, Upto, upto-none, upto-passes}
 
 -- What the scan knows of the tasks below i: all are fit, when something next comes, and who leads of those that can run.
@@ -37,22 +40,30 @@ module _ (now : Instant) (m : Moment) {w : Moment} (b : ℕ) (e : momentOf b ≡
   pub sooner-same : {c : ℕ} → c ≡ b → m ≡ Never → momentOf c ≡ sooner now m w
   sooner-same q f = rw (q, f, e)
 
+-- A task at ease is held against the lead if it lives, and one that isn't leaves the lead as it was.
+module _ (ts : List Task) (i : ℕ) {lead after : Lead} (h : Led i (canRun ts) ts lead) where
+  pub led-eased : {r : Lead} → atEase (taskAt ts i .wait) (taskAt ts i .hold) ≡ true
+      → Weighed lead (taskAt ts i .alive) (mostTasks * taskAt ts i .current + i) i r → after ≡ r → Led (i + 1) (canRun ts) ts after
+  led-eased e q z = rw z (led-more (canRun ts) ts i (eased-runs (taskAt ts i) e) h q)
+
+  pub led-busy : atEase (taskAt ts i .wait) (taskAt ts i .hold) ≡ false → after ≡ lead → Led (i + 1) (canRun ts) ts after
+  led-busy e z = rw z (led-passed (canRun ts) ts i (busy-rests (taskAt ts i) e) h)
+
 module _ (day : ℕ) (k : State) where
   pub looked-none : Looked day k 0 0 noLead
   looked-none = record { tasks = upto-none _ _; comings = among-none k; leads = led-none _ _ refl }
 
   module _ {i soonest : ℕ} {lead : Lead} (p : Looked day k i soonest lead) where
     pub looked-next :
-        i < k .counts .tasks → (next : ℕ) {runs : Bool} {after : Lead} → fitAt day k i ≡ true
+        i < k .counts .tasks → (next : ℕ) {after : Lead} → fitAt day k i ≡ true
         → momentOf next ≡ sooner (k .now) (delayEnd (taskAt (k .tasks) i .hold)) (sooner (k .now) (nextStart (taskAt (k .tasks) i .schedule .alarm)) (momentOf soonest))
-        → runs ≡ canRun (k .tasks) i
-        → Weighed lead runs (mostTasks * taskAt (k .tasks) i .current + i) i after
+        → Led (i + 1) (canRun (k .tasks)) (k .tasks) after
         → Looked day k (i + 1) next after
-    looked-next less next fits c r a =
+    looked-next less next fits c a =
         record {
           tasks = upto-passes (p .tasks) less fits;
           comings = among-more k i soonest next (p .comings) c;
-          leads = led-more (canRun (k .tasks)) (k .tasks) i r (p .leads) a;
+          leads = a;
         }
 
     module _ (end : k .counts .tasks ≤ i) where

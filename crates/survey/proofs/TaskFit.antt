@@ -1,6 +1,6 @@
 -- One task in the kernel test: by its priorities, by its schedule, by a start kept back, and by whether it is at ease.
 use mathlib.Core.Path.{_≡_, refl}
-use mathlib.Core.Bool.{Bool, true, false, not, _&&_, _||_, and-true, and-false, and-assoc, or-true, or-false}
+use mathlib.Core.Bool.{Bool, true, false, not, _&&_, _||_, and-true, and-false, and-assoc, and-comm, or-true, or-false}
 use mathlib.Core.List.{List}
 use Prim.Native.Nat.{ℕ}
 use Rattle.calendar.specs.declared.Moment.the-variants.{Never}
@@ -70,6 +70,10 @@ eased Nothing Unheld e = record { waits = refl; hold = refl; free = refl; ends =
 -- It can run if it lives.
 pub eased-runs : (t : Task) → atEase (t .wait) (t .hold) ≡ true → t .alive ≡ runnable t
 eased-runs t e = let q = eased (t .wait) (t .hold) e in rw (q .free, q .waits, and-true, and-true)
+
+-- One that isn't at ease can't run.
+pub busy-rests : (t : Task) → atEase (t .wait) (t .hold) ≡ false → runnable t ≡ false
+busy-rests t e = rw (and-assoc (t .alive), and-comm (unheld (t .hold)), e, and-false)
 
 -- ---- one task
 

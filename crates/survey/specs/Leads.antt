@@ -3,6 +3,7 @@ use mathlib.Core.Path.{_≡_}
 use mathlib.Core.Bool.{Bool, cond, _&&_}
 use Prim.Native.Nat.{ℕ, _<_}
 use lib.Dec.{leb, ltb}
+use Rattle.machine.specs.State.{mostTasks}
 use Rattle.machine.specs.declared.Running.{Running}
 use Rattle.machine.specs.declared.Running.the-variants.{Idle, Runs}
 use Rattle.survey.specs.declared.scan.Lead.{Lead}
@@ -12,20 +13,21 @@ abbrev pub nobody : ℕ
 nobody = 8192
 
 abbrev pub noLead : Lead
-noLead = record { urgency = nobody; task = 0 }
+noLead = record { urgency = nobody; task = mostTasks }
 
 -- A task i of urgency u is held against the lead, if it counts.
 unfoldable pub against : Lead → Bool → ℕ → ℕ → Lead
 against l counts u i = cond (counts && ltb u (l .urgency)) (record { urgency = u; task = i }) l
 
--- So it is done, with an urgency that a task can have.
+-- So it is done, for a place of the table and with an urgency that a task can have.
 pub record Weighed (l : Lead) (counts : Bool) (u i : ℕ) (r : Lead) : Type 0 where
+  pub place : i < mostTasks
   pub small : u < nobody
   pub lead : r ≡ against l counts u i
 
 -- Who leads.
 unfoldable pub whose : Lead → Running
-whose l = cond (leb nobody (l .urgency)) Idle (Runs (l .task))
+whose l = cond (leb mostTasks (l .task)) Idle (Runs (l .task))
 
 -- The lead of whom a scan has found, by the urgencies u.
 unfoldable pub leadOf : (ℕ → ℕ) → Running → Lead

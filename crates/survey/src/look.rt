@@ -14,7 +14,6 @@ use crate::check::is_schedule_ok;
 use crate::next::moment_of;
 use crate::next::sooner_end;
 use crate::next::sooner_start;
-use crate::scan::can_run;
 use crate::scan::no_lead;
 use calendar::LAST_INSTANT;
 use calendar::Moment;
@@ -76,17 +75,16 @@ pub fn survey(k: State) -> Survey
         let t = k.tasks[i];
         let wait = t.wait;
         let hold = t.hold;
-        let mut runs = k.tasks[i].alive;
-        if !is_at_ease(wait, hold) {
+        if is_at_ease(wait, hold) {
+            lead = lead.against_if(k.tasks[i].alive, current, i);
+        } else {
             let t = k.tasks[i];
             if !is_busy_ok(counts, locks, t) {
                 return unfit();
             }
             let hold = t.hold;
             soonest = sooner_end(soonest, now, hold);
-            runs = can_run(runs, wait, hold);
         }
-        lead = lead.against_if(runs, current, i);
     }
     Survey {
         ok: true,

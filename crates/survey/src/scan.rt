@@ -18,11 +18,11 @@ const MOST_TASKS: usize = machine::MOST_TASKS as usize;
 // More than the urgency of any task: 32 * 255 + 31 is the largest.
 pub const NOBODY: usize = 8192;
 
-// The task that leads a scan, and how urgent it is. In two words: in one, the machine would put them together and
-// take them apart at every task.
+// The task that leads a scan, and how urgent it is. In two whole words: in less, the machine would put them together
+// and take them apart at every task.
 pub struct Lead {
     pub urgency: usize,
-    pub task: u8,
+    pub task: usize,
 }
 
 // Nobody leads.
@@ -31,7 +31,7 @@ pub fn no_lead() -> Lead
 {
     Lead {
         urgency: NOBODY,
-        task: 0,
+        task: MOST_TASKS,
     }
 }
 
@@ -44,8 +44,7 @@ impl Lead {
         if self.urgency <= urgency {
             return self;
         }
-        let task = i as u8;
-        Lead { urgency, task }
+        Lead { urgency, task: i }
     }
 
     // The same for a task that counts or not. Its urgency is found only if it counts.
@@ -63,10 +62,10 @@ impl Lead {
     pub fn who(self) -> Running
         ensures { λ r. ⌜ r ≡ whose self ⌝ }
     {
-        if NOBODY <= self.urgency {
+        if MOST_TASKS <= self.task {
             return Running::Idle;
         }
-        Running::Runs(self.task)
+        Running::Runs(self.task as u8)
     }
 }
 

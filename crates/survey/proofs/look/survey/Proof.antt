@@ -4,7 +4,7 @@ use borrow.Author.Tests.{not-true, not-false}
 use mathlib.Core.Path.{_≡_, refl, sym, _∙_}
 use mathlib.Core.Bool.{true, false, _&&_}
 use mathlib.Core.Logic.{⊎-elim}
-use Prim.Native.Nat.{_-_, _<_, _≤_}
+use Prim.Native.Nat.{_+_, _-_, _<_, _≤_}
 use native.Mathlib.Omega.{arith}
 use Rattle.calendar.specs.Limits.{day}
 use Rattle.calendar.specs.Moments.{sooner}
@@ -16,10 +16,10 @@ use Rattle.machine.specs.declared.State.{State}
 use Rattle.survey.specs.Looks.{unfit, surveyed}
 use Rattle.survey.specs.Next.{momentOf}
 use Rattle.survey.proofs.Owned.{Owned}
-use Rattle.survey.proofs.LeadLaws.{canRun}
-use Rattle.survey.proofs.TaskFit.{plan-none, no-start, Starts, start-none, start-kept, eased, eased-runs, odd-priority, odd-schedule, odd-kept, odd-busy, fit-eased, fit-busy}
+use Rattle.survey.proofs.LeadLaws.{Led, canRun}
+use Rattle.survey.proofs.TaskFit.{plan-none, no-start, Starts, start-none, start-kept, eased, odd-priority, odd-schedule, odd-kept, odd-busy, fit-eased, fit-busy}
 use Rattle.survey.proofs.TestLaws.{fitAt, upto-fails, upto-all, out-of-range, counted, tasks-fit, all-fit}
-use Rattle.survey.proofs.Surveying.{Looked, sooner-more, sooner-same, looked-none, looked-next, looked-event, looked-runs, unfit-is, fit-is}
+use Rattle.survey.proofs.Surveying.{Looked, sooner-more, sooner-same, led-eased, led-busy, looked-none, looked-next, looked-event, looked-runs, unfit-is, fit-is}
 use Rattle.survey.proofs.look.survey.Statement.{statement}
 use Rattle.survey.proofs.look.survey.Tie as tie
 
@@ -119,8 +119,8 @@ fits c =
     let p = scheduled u in
     let i = turn u in
     let k = state (passed i) in
-    ⊎-elim (λ w. fit-busy day (k .counts) (k .tasks) (k .locks) (one i) (priorities p) (schedule p) (start u) (sym (w .2 .ensures (k .tasks)) ∙ not-false _ (w .3 .left)))
-    (λ w. fit-eased day (k .counts) (k .tasks) (k .locks) (one i) (priorities p) (schedule p) (start u) (sym (c .before .is-at-ease .ensures) ∙ not-false _ (w .0 .left)))
+    ⊎-elim (λ w. fit-eased day (k .counts) (k .tasks) (k .locks) (one i) (priorities p) (schedule p) (start u) (sym (c .before .is-at-ease .ensures) ∙ w .0 .taken))
+    (λ w. fit-busy day (k .counts) (k .tasks) (k .locks) (one i) (priorities p) (schedule p) (start u) (sym (w .2 .ensures (k .tasks)) ∙ not-false _ (w .3 .left)))
     (c .if7 .came)
 
 coming : (c : T) → let i = turn (started c) in let now = state (passed i) .now in
@@ -129,14 +129,17 @@ coming c =
     let p = scheduled (started c) in
     let i = turn (started c) in
     let t = one i in
-    ⊎-elim (λ w. sooner-more (state (passed i) .now) (delayEnd (t .hold)) (p .if3 .soonest) (starting p) (w .6) (w .4 .ensures))
-    (λ w. sooner-same (state (passed i) .now) (delayEnd (t .hold)) (p .if3 .soonest) (starting p) (w .1) (eased (t .wait) (t .hold) (sym (c .before .is-at-ease .ensures) ∙ not-false _ (w .0 .left)) .ends))
+    ⊎-elim (λ w. sooner-same (state (passed i) .now) (delayEnd (t .hold)) (p .if3 .soonest) (starting p) (w .2) (eased (t .wait) (t .hold) (sym (c .before .is-at-ease .ensures) ∙ w .0 .taken) .ends))
+    (λ w. sooner-more (state (passed i) .now) (delayEnd (t .hold)) (p .if3 .soonest) (starting p) (w .5) (w .4 .ensures))
     (c .if7 .came)
 
-running : (c : T) → let i = turn (started c) in c .if7 .runs ≡ canRun (state (passed i) .tasks) (i .before .loop .i)
-running c =
-    let t = one (turn (started c)) in
-    ⊎-elim (λ w. w .7 ∙ w .5 .ensures) (λ w. w .2 ∙ eased-runs t (sym (c .before .is-at-ease .ensures) ∙ not-false _ (w .0 .left))) (c .if7 .came)
+leading : (c : T) → let i = turn (started c) in let ts = state (passed i) .tasks in Led (i .before .loop .i + 1) (canRun ts) ts (c .if7 .lead)
+leading c =
+    let i = turn (started c) in
+    let l = i .before .loop in
+    let ts = state (passed i) .tasks in
+    ⊎-elim (λ w. led-eased ts (l .i) (l .inv .leads) (sym (c .before .is-at-ease .ensures) ∙ w .0 .taken) (w .1 .ensures) (w .3))
+    (λ w. led-busy ts (l .i) (l .inv .leads) (sym (c .before .is-at-ease .ensures) ∙ w .0 .left) (w .6)) (c .if7 .came)
 
 -- ---- the needs
 
@@ -265,14 +268,17 @@ mul-t-5 c = omega (arith, room (turn c))
 element-copy-out-t-5 : tie.Need-element-copy-out-t-5 Inv-loop μ-loop
 element-copy-out-t-5 c = omega (arith, room (turn c))
 
-mul-runs : tie.Need-mul-runs Inv-loop μ-loop
-mul-runs c = omega (arith, room (turn (c .before)))
-
-element-copy-out-runs : tie.Need-element-copy-out-runs Inv-loop μ-loop
-element-copy-out-runs c = omega (arith, room (turn (c .before)))
-
 is-at-ease-requires : tie.Need-is-at-ease-requires Inv-loop μ-loop
 is-at-ease-requires c κs = search needs
+
+mul-against-if : tie.Need-mul-against-if Inv-loop μ-loop
+mul-against-if c = omega (arith, room (turn (c .before .before .before)))
+
+element-copy-out-against-if : tie.Need-element-copy-out-against-if Inv-loop μ-loop
+element-copy-out-against-if c = omega (arith, room (turn (c .before .before .before)))
+
+against-if-requires : tie.Need-against-if-requires Inv-loop μ-loop
+against-if-requires c κs = room (turn (c .before .before .before))
 
 mul-t-6 : tie.Need-mul-t-6 Inv-loop μ-loop
 mul-t-6 c = omega (arith, room (turn (c .before .before .before)))
@@ -294,33 +300,25 @@ returns-5 c =
     let k = state (passed i) in
     c .unfit5 .ensures
     ∙ ends i (odd-busy day (k .counts) (k .tasks) (k .locks) (one i)
-    (sym (e .is-at-ease .ensures) ∙ not-true _ (b .before .before .if7 .taken))
+    (sym (e .is-at-ease .ensures) ∙ b .before .before .if7 .left)
     (sym (b .is-busy-ok .ensures (k .tasks)) ∙ not-true _ (c .before .if8 .taken)))
 
 sooner-end-requires : tie.Need-sooner-end-requires Inv-loop μ-loop
 sooner-end-requires c κs = search needs
 
-can-run-requires : tie.Need-can-run-requires Inv-loop μ-loop
-can-run-requires c κs = search needs
-
-against-if-requires : tie.Need-against-if-requires Inv-loop μ-loop
-against-if-requires c κs = room (turn (started c))
-
 add-i : tie.Need-add-i Inv-loop μ-loop
-add-i c = omega (arith, room (turn (started (c .before))))
+add-i c = omega (arith, room (turn (started c)))
 
 loop-less : tie.Need-loop-less Inv-loop μ-loop
 loop-less c =
-    let i = turn (started (c .before)) in
+    let i = turn (started c) in
     omega (arith, i .loop-test .taken)
 
 loop-again : tie.Need-loop-again Inv-loop μ-loop
 loop-again c =
-    let t = c .before in
-    let i = turn (started t) in
-    let k = state (passed i) in
-    looked-next day k (i .before .loop .inv) (i .loop-test .taken)
-    (t .if7 .soonest) (fits t) (coming t) (running t) (c .against-if .ensures)
+    let i = turn (started c) in
+    looked-next day (state (passed i)) (i .before .loop .inv) (i .loop-test .taken)
+    (c .if7 .soonest) (fits c) (coming c) (leading c)
 
 moment-of-requires : tie.Need-moment-of-requires Inv-loop μ-loop
 moment-of-requires c κs = search needs
@@ -379,17 +377,16 @@ survey-spec =
     returns-4
     mul-t-5
     element-copy-out-t-5
-    mul-runs
-    element-copy-out-runs
     is-at-ease-requires
+    mul-against-if
+    element-copy-out-against-if
+    against-if-requires
     mul-t-6
     element-copy-out-t-6
     is-busy-ok-requires
     unfit-requires-5
     returns-5
     sooner-end-requires
-    can-run-requires
-    against-if-requires
     add-i
     loop-less
     loop-again

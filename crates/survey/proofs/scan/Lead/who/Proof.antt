@@ -1,5 +1,6 @@
--- Nobody where nobody's urgency is.
+-- Nobody where the place is none of the table.
 use borrow.Author.Tests.{le-leb, lt-leb}
+use native.Mathlib.Omega.{arith}
 use Rattle.survey.specs.Leads.{whose}
 use Rattle.survey.proofs.scan.Lead.who.Statement.{statement}
 use Rattle.survey.proofs.scan.Lead.who.Tie as tie
@@ -8,9 +9,12 @@ returns : tie.Need-returns
 unfolding whose
 returns c = rw (le-leb _ _ (c .if1 .taken))
 
+cast-t3 : tie.Need-cast-t3
+cast-t3 c = omega (arith, c .before .if1 .left)
+
 returns-2 : tie.Need-returns-2
 unfolding whose
-returns-2 c = rw (lt-leb _ _ (c .if1 .left))
+returns-2 c = rw (lt-leb _ _ (c .before .if1 .left))
 
 pub who-spec : {M : Type 1} → statement M
-who-spec = tie.close (tie.spec returns returns-2)
+who-spec = tie.close (tie.spec returns cast-t3 returns-2)
