@@ -133,7 +133,7 @@ tasks-again-2 c =
     let u = c .before .before .urgency-of in
     let d = c .before .before .before .before .before .before in
     let l = d .before .tasks in
-    (search needs, led-more (canServe (kOf d)) (kOf d .tasks) (iOf d) refl (l .inv .1) (weighed (u .ensures) (sym (against-later (l .lead) _ (u .result) (iOf d) (c .if2 .taken)))))
+    (search needs, led-more (canServe (kOf d)) (kOf d .tasks) (iOf d) refl (l .inv .1) (weighed (placed d) (u .ensures) (sym (against-later (l .lead) _ (u .result) (iOf d) (c .if2 .taken)))))
 
 mul-m : tie.Need-mul-m Inv-loop μ-loop Inv-tasks μ-tasks
 mul-m c = omega (arith, placed (inP c))
@@ -212,7 +212,7 @@ tasks-again-4 c =
     let d = inP p in
     let l = c .before .before .loop in
     let e = servable-each _ (kOf d .tasks) (kOf d .locks) (iOf d) (waits p) ∙ sym (all-pass (l .inv .1) (c .before .loop-test .left)) in
-    (omega (arith, d .tasks-test .taken, l .inv .0), rw (l .inv .0) (led-more (canServe (kOf d)) (kOf d .tasks) (iOf d) (sym e) (d .before .tasks .inv .1) (weighed (p .before .before .urgency-of .ensures) (rw (l .inv .0) at (c .against .ensures)))))
+    (omega (arith, d .tasks-test .taken, l .inv .0), rw (l .inv .0) (led-more (canServe (kOf d)) (kOf d .tasks) (iOf d) (sym e) (d .before .tasks .inv .1) (weighed (placed d) (p .before .before .urgency-of .ensures) (rw (l .inv .0) at (c .against .ensures)))))
 
 who-requires : tie.Need-who-requires Inv-loop μ-loop Inv-tasks μ-tasks
 who-requires c κs = search needs
