@@ -46,7 +46,7 @@ found-one n test u apart (Runs i) (Runs j) f g =
 -- If it passes on as urgent as before, or didn't pass, only it can become the lead.
 module _ (n : ℕ) (test test′ : ℕ → Bool) (u u′ : ℕ → ℕ) (i : ℕ) (l : i < n)
     (same : (j : ℕ) → j ≢ i → (test j ≡ test′ j) × (u j ≡ u′ j))
-    (stays : test i ≡ true → (test′ i ≡ true) × (u i ≡ u′ i)) (small : u′ i < nobody) where
+    (stays : test i ≡ true → (test′ i ≡ true) × (u i ≡ u′ i)) (place : i < mostTasks) (small : u′ i < nobody) where
   kept : (j : ℕ) → test j ≡ true → (test′ j ≡ true) × (u j ≡ u′ j)
   kept j e = byEq j i (λ q. rw q (stays (rw q at e))) (λ q. (sym (same j q .0) ∙ e, same j q .1))
 
@@ -58,14 +58,14 @@ module _ (n : ℕ) (test test′ : ℕ → Bool) (u u′ : ℕ → ℕ) (i : ℕ
   held Idle a h f =
       rw (h .lead)
       (byBool (test′ i)
-      (λ e. (Runs i, rw (e, lt-ltb _ _ small) (leads-one u′ i small), (l, e, λ j x t. byEq j i (λ q. rw q (omega arith)) (λ q. contra (same j q .0 ∙ t) (f j x)))))
+      (λ e. (Runs i, rw (e, lt-ltb _ _ small) (leads-one u′ i place), (l, e, λ j x t. byEq j i (λ q. rw q (omega arith)) (λ q. contra (same j q .0 ∙ t) (f j x)))))
       (λ e. (Idle, rw e (leads-nobody u′), λ j x. byEq j i (λ q. rw q e) (λ q. sym (same j q .0) ∙ f j x))))
   held (Runs k) a h f =
       byBool (test′ i && ltb (u′ i) (a .urgency))
       (λ e.
       let b = both (test′ i) _ e in
       let less : u′ i < u k = rw (h .lead) at (ltb-true (u′ i) (a .urgency) (b .1)) in
-      (Runs i, rw e (leads-one u′ i small), (l, b .0, λ j x t. byEq j i (λ q. rw q (omega arith)) (λ q. omega (arith, less, f .2 j x (same j q .0 ∙ t), same j q .1)))))
+      (Runs i, rw e (leads-one u′ i place), (l, b .0, λ j x t. byEq j i (λ q. rw q (omega arith)) (λ q. omega (arith, less, f .2 j x (same j q .0 ∙ t), same j q .1)))))
       (λ e.
       let p = kept k (f .1) in (
         Runs k,
@@ -125,7 +125,7 @@ leading-none ts c f e q = record { long = f; leads = rw (q, e) (leads-nobody (ur
 pub leading-from : (ts : List Task) (c j : ℕ) → length ts ≡ mostTasks → runningOf c ts ≡ Runs j → {none lead : Lead}
     → none ≡ noLead → Weighed none true (mostTasks * taskAt ts j .current + j) j lead → Leading ts c lead
 unfolding against urgency
-leading-from ts c j f e z q = record { long = f; leads = rw (q .lead, z, lt-ltb _ _ (q .small), e) (leads-one (urgency ts) j (q .small)) }
+leading-from ts c j f e z q = record { long = f; leads = rw (q .lead, z, lt-ltb _ _ (q .small), e) (leads-one (urgency ts) j (q .place)) }
 
 -- Task i has had its turn,
 pub leading-more : (n : Instant) (ts : List Task) (c i : ℕ) → i < c → c ≤ mostTasks → {ts′ : List Task} {lead lead′ held : Lead} {runs : Bool}
@@ -139,7 +139,7 @@ leading-more n ts c i l b {lead = lead} u e h a r q z =
     leads-set c (canRun ts) (canRun ts′) (urgency ts) (urgency ts′) i l
     (λ j ne. let o = getD-set-other ts i j (u .task) noTask ne in (rw o, rw o))
     (λ x. rw (there, e) (let s = runs-on n (taskAt ts i) x in (s .0, rw (s .1))))
-    (rw there (q .small))
+    (q .place) (rw there (q .small))
     (λ i j x y z. omega arith) lead (h .leads) in
     rw a (record { long = length-set ts i (u .task) ∙ h .long; leads = rw (z, q .lead, r) (rw there at moved) })
 
