@@ -18,6 +18,7 @@ use crate::quiet::quiet_tick;
 use calendar::LAST_INSTANT;
 use layout::Head;
 use layout::Numbers;
+use look::survey;
 use machine::Running;
 use machine::State;
 use machine::Stepped;
@@ -30,7 +31,6 @@ use refusals::sorts::sort_of;
 use refusals::state::state_refusal;
 use serving::ends::finished;
 use serving::ends::no_sets;
-use survey::look::survey;
 use survey::sets::put_marks;
 
 // A call or declaration that no formal ground refuses: its state refusals, or what it does.

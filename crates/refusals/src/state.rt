@@ -15,7 +15,7 @@ use lock::Wait;
 use lock::Way;
 use machine::Running;
 use machine::Sort;
-use serving::ends::is_someone;
+use survey::scan::is_someone;
 use task::Task;
 
 // A refusal unless a test holds, else what the next tests give.

@@ -17,11 +17,11 @@ use calls::step::step_on;
 use kernel::Kernel;
 use layout::RECORD_LENGTH;
 use lines::line_at;
+use look::survey;
 use machine::Answer;
 use machine::Running;
 use serving::ends::begun_at;
 use serving::ends::plain;
-use survey::look::survey;
 use survey::next::next_event;
 
 pub const LONGEST_LINE: usize = 63;

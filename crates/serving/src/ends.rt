@@ -4,7 +4,6 @@ ghost use mathlib.Core.Bool.{true};
 ghost use Prim.Native.Nat.{_<_};
 ghost use Rattle.machine.specs.Granting.{servable};
 ghost use Rattle.machine.specs.Serving.{nextServed, grantTo};
-ghost use Rattle.machine.specs.Running.{someone};
 ghost use Rattle.machine.specs.Sets.{noSets};
 ghost use Rattle.machine.specs.State.{begunAt};
 ghost use Rattle.machine.specs.Step.{plainAnswer, finish};
@@ -22,6 +21,7 @@ use machine::Stepped;
 use survey::granting::Asker;
 use survey::granting::is_available;
 use survey::scan::can_run;
+use survey::scan::is_someone;
 use survey::scan::no_lead;
 use survey::scan::places;
 use survey::scan::running;
@@ -32,16 +32,6 @@ use survey::sets::put_task;
 pub struct Serviced {
     pub state: State,
     pub granted: u32,
-}
-
-// Whether a task runs.
-pub fn is_someone(r: Running) -> bool
-    ensures { λ s. ⌜ s ≡ someone r ⌝ }
-{
-    match r {
-        Running::Idle => false,
-        Running::Runs(_) => true,
-    }
 }
 
 // The most urgent task that waits on a list that could be granted, held or not. A task is given up at the first

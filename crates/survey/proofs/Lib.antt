@@ -4,5 +4,4 @@ pub mod LeadLaws
 pub mod PlaceLaws
 pub mod TestLaws
 pub mod TaskFit
-pub mod Surveying
 pub mod NextLaws

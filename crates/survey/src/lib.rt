@@ -1,7 +1,6 @@
-// One look at a kernel: the kernel test, the next event, and the running task.
+// The parts of a look at a kernel: of the kernel test, the next event and the running task.
 pub mod check;
 pub mod granting;
-pub mod look;
 pub mod next;
 pub mod scan;
 pub mod sets;

@@ -5,7 +5,7 @@ ghost use Prim.Native.Nat.{_+_, _*_, _<_, min};
 ghost use Rattle.lock.specs.Locks.{waiting};
 ghost use Rattle.task.specs.State.{unheld};
 ghost use Rattle.machine.specs.State.{mostTasks};
-ghost use Rattle.machine.specs.Running.{runner};
+ghost use Rattle.machine.specs.Running.{someone, runner};
 ghost use Rattle.survey.specs.Leads.{nobody, noLead, against, whose, Weighed};
 use lock::Wait;
 use lock::is_waiting;
@@ -96,6 +96,16 @@ pub fn can_run(alive: bool, wait: Wait, hold: Hold) -> bool
         return false;
     }
     hold.is_unheld()
+}
+
+// Whether a task runs.
+pub fn is_someone(r: Running) -> bool
+    ensures { λ s. ⌜ s ≡ someone r ⌝ }
+{
+    match r {
+        Running::Idle => false,
+        Running::Runs(_) => true,
+    }
 }
 
 // The running task: the most urgent runnable one, or none.

@@ -2,10 +2,10 @@
 use borrow.Author.Needs.{needs}
 use mathlib.Core.Path.{_∙_, ap}
 use Rattle.calendar.specs.Limits.{day}
 use Rattle.survey.specs.declared.Survey.{Survey}
-use Rattle.survey.proofs.Surveying.{survey-ok}
-use Rattle.survey.proofs.look.is_valid.Statement.{statement}
-use Rattle.survey.proofs.look.is_valid.Tie as tie
+use Rattle.look.proofs.Surveying.{survey-ok}
+use Rattle.look.proofs.is_valid.Statement.{statement}
+use Rattle.look.proofs.is_valid.Tie as tie
 
 survey-requires : tie.Need-survey-requires
 survey-requires c κs = search needs

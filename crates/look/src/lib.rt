@@ -1,25 +1,25 @@
-// One look at a kernel.
+// One look at a kernel: the kernel test, the next event, and the running task.
 ghost use mathlib.Core.Path.{_≡_};
 ghost use Rattle.calendar.specs.Limits.{day};
 ghost use Rattle.machine.specs.Test.{valid};
 ghost use Rattle.survey.specs.Looks.{unfit, surveyed};
-use crate::Survey;
-use crate::check::are_counts_ok;
-use crate::check::are_priorities;
-use crate::check::is_at_ease;
-use crate::check::is_busy_ok;
-use crate::check::is_kept_right;
-use crate::check::is_planned;
-use crate::check::is_schedule_ok;
-use crate::next::moment_of;
-use crate::next::sooner_end;
-use crate::next::sooner_start;
-use crate::scan::no_lead;
 use calendar::LAST_INSTANT;
 use calendar::Moment;
 use calendar::is_time_of_day;
 use machine::Running;
 use machine::State;
+use survey::Survey;
+use survey::check::are_counts_ok;
+use survey::check::are_priorities;
+use survey::check::is_at_ease;
+use survey::check::is_busy_ok;
+use survey::check::is_kept_right;
+use survey::check::is_planned;
+use survey::check::is_schedule_ok;
+use survey::next::moment_of;
+use survey::next::sooner_end;
+use survey::next::sooner_start;
+use survey::scan::no_lead;
 
 // The survey of a kernel that fails the test.
 fn unfit() -> Survey

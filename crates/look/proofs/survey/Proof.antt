@@ -13,15 +13,15 @@ use Rattle.task.specs.declared.Task.{Task}
 use Rattle.machine.specs.State.{mostTasks, taskAt}
 use Rattle.machine.specs.Test.{isPriority, scheduleOk, allBelow, countsOk, valid}
 use Rattle.machine.specs.declared.State.{State}
 use Rattle.survey.specs.Looks.{unfit, surveyed}
 use Rattle.survey.specs.Next.{momentOf}
 use Rattle.survey.proofs.Owned.{Owned}
 use Rattle.survey.proofs.LeadLaws.{Led, canRun}
 use Rattle.survey.proofs.TaskFit.{plan-none, no-start, Starts, start-none, start-kept, eased, odd-priority, odd-schedule, odd-kept, odd-busy, fit-eased, fit-busy}
 use Rattle.survey.proofs.TestLaws.{fitAt, upto-fails, upto-all, out-of-range, counted, tasks-fit, all-fit}
-use Rattle.survey.proofs.Surveying.{Looked, sooner-more, sooner-same, led-eased, led-busy, looked-none, looked-next, looked-event, looked-runs, unfit-is, fit-is}
-use Rattle.survey.proofs.look.survey.Statement.{statement}
-use Rattle.survey.proofs.look.survey.Tie as tie
+use Rattle.look.proofs.Surveying.{Looked, sooner-more, sooner-same, led-eased, led-busy, looked-none, looked-next, looked-event, looked-runs, unfit-is, fit-is}
+use Rattle.look.proofs.survey.Statement.{statement}
+use Rattle.look.proofs.survey.Tie as tie
 
 abbrev Inv-loop : tie.InvT-loop
 Inv-loop k counts now n locks soonest₀ lead₀ i₀ soonest lead i = Looked day k i soonest lead
