@@ -32,7 +32,7 @@ use Rattle.machine.specs.Running.{runner}
 use Rattle.machine.specs.Test.{valid}
 use Rattle.machine.specs.Sorts.{sortOf, declaring, declares, placeOf, runnerAt}
 use Rattle.machine.specs.Refusals.{listDeclared, declaredBy, formalRefusal, admitted, refusalBy, stateRefusal}
-use Rattle.machine.specs.Calls.{declaration, tick, workBy}
+use Rattle.machine.specs.Calls.{declaration, tick, interruptBy, workBy}
 use Rattle.machine.specs.Step.{refuse, declared, finish, orRefuse, carryOut, settle, stepRead, step}
 use Rattle.machine.proofs.Urgency.{Below, runner-below}
 use Rattle.machine.proofs.Passed.{Formal, formal, formal-as}
@@ -145,6 +145,12 @@ module _ (day : ℕ) (k : State) (h : Head) (l : List ℕ) where
   pub settled-call : declares (h .mark) ≡ false → stateRefusal (h .mark) k call ≡ 0 → {s : Sort} → s ≡ sortOf (h .mark) → finish k (workBy day s k call) ≡ settle day k call
   unfolding settle carryOut
   settled-call d e q = rw (d, e, q)
+
+  -- The state refuses nothing that is about an interrupt.
+  pub settled-interrupt : sortOf (h .mark) ≡ AnInterrupt → finish k (interruptBy day (h .mark) k (h .number)) ≡ settle day k call
+  unfolding declares workBy
+  settled-interrupt q =
+      settled-call (rw q) (sym (refusal-by call (runner k) (taskAt (k .tasks) (placeOf (sortOf (h .mark)) h (runner k))) (k .locks) (k .now) (h .mark) AnInterrupt q)) (sym q)
 
   pub settled-tick : sortOf (h .mark) ≡ EveryTask → orRefuse k (stateRefusal TI k call) (finish k (tick k)) ≡ settle day k call
   unfolding settle carryOut declares workBy

@@ -80,6 +80,16 @@ tick-left (ListGiven w) e = contra e refl
 tick-left AnInterrupt e = contra e refl
 tick-left EveryTask e = refl
 
+-- What is about one task isn't a declaration.
+undeclaring : (s : Sort) → aboutOne s ≡ true → declaring s ≡ false
+undeclaring Declaration e = contra e refl
+undeclaring OneTask e = refl
+undeclaring TheRunner e = refl
+undeclaring (ListAsked w b) e = refl
+undeclaring (ListGiven w) e = refl
+undeclaring AnInterrupt e = refl
+undeclaring EveryTask e = refl
+
 -- What a list gives back can be given back.
 pub given-back : (m : Mark) (c : Call) (l : Locks) {s : Sort} {w : Wait} → s ≡ sortOf m → s ≡ ListGiven w → Returnable s l c → every (taken w l) (named c) ≡ true
 given-back m c l {w = w} q e b = or-then (waiting w) _ (rw e at b) (given-waits m (sym q ∙ e))
@@ -162,9 +172,13 @@ module _ (day : ℕ) (k : State) (h : Head) (l : List ℕ) (v : valid day k ≡ 
     unfolding finish changed
     finish-change = refl
 
-    pub change-done : declares (h .mark) ≡ false → {e : Sets} → e ≡ noSets → {s : Sets} → s ≡ putMarks i (d .marks) e
+    called : declares (h .mark) ≡ false
+    unfolding declares
+    called = ap declaring (sym q) ∙ undeclaring s a
+
+    pub change-done : {e : Sets} → e ≡ noSets → {s : Sets} → s ≡ putMarks i (d .marks) e
         → finish (withChange k i d) (workHere (withChange k i d) s) ≡ settle day k call
-    change-done b n m =
+    change-done n m =
         ap (λ x. finish (withChange k i d) (workHere (withChange k i d) x)) (m ∙ ap (putMarks i (d .marks)) n ∙ put-first i (d .marks)) ∙ finish-change
         ∙ ap (λ x. finish k (changed k x d)) e ∙ ap (λ x. finish k (changed k (placeOf s h (runner k)) x)) done
-        ∙ ap (finish k) (work-one s a) ∙ settled-call day k h l b z q
+        ∙ ap (finish k) (work-one s a) ∙ settled-call day k h l called z q

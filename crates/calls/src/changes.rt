@@ -3,7 +3,7 @@ ghost use mathlib.Core.Path.{_≡_};
 ghost use Prim.Native.Nat.{ℕ, _≤_};
 ghost use Rattle.calendar.specs.Limits.{day, lastInstant};
 ghost use Rattle.record.specs.Reading.{callWith};
-ghost use Rattle.machine.specs.Sorts.{sortOf, runnerAt, placeOf};
+ghost use Rattle.machine.specs.Sorts.{sortOf, runnerAt};
 ghost use Rattle.machine.specs.Work.{byTurn, byLocks};
 ghost use Rattle.machine.specs.Calls.{namedTurn, runnerTurn, asks, changeOf};
 ghost use Rattle.refusals.specs.Inner.{InOrder};
@@ -22,7 +22,6 @@ use lock::Way;
 use machine::Change;
 use machine::Running;
 use machine::Sort;
-use refusals::sorts::is_naming;
 use survey::granting::Asker;
 use survey::granting::could_be_granted;
 use task::Marks;
@@ -30,23 +29,13 @@ use task::Task;
 use task::Turn;
 
 // The running task, or task 0 where nobody runs.
-fn runner_at(r: Running) -> usize
+pub(crate) fn runner_at(r: Running) -> usize
     ensures { λ i. ⌜ i ≡ runnerAt r ⌝ }
 {
     match r {
         Running::Idle => 0,
         Running::Runs(i) => i as usize,
     }
-}
-
-// The task that a call names, else the running one.
-pub(crate) fn place_of(sort: Sort, h: Head, r: Running) -> usize
-    ensures { λ i. ⌜ i ≡ placeOf sort h r ⌝ }
-{
-    if is_naming(sort) {
-        return h.number as usize;
-    }
-    runner_at(r)
 }
 
 fn by_turn(locks: Locks, u: Turn) -> Change

@@ -12,6 +12,7 @@ ghost use Rattle.machine.specs.Work.{everyTurn};
 ghost use Rattle.machine.specs.Calls.{tick, trigger, enable, interruptBy};
 ghost use Rattle.machine.specs.Step.{finish, orRefuse};
 ghost use Rattle.survey.specs.Looks.{waitsOk};
+ghost use Rattle.calls.specs.Stirring.{mayCome};
 ghost use Rattle.layout.specs.declared.Mark.the-variants.{TI};
 ghost use Rattle.layout.specs.declared.Call.{Call};
 use crate::declarations::answered;
@@ -31,6 +32,7 @@ use serving::ends::finished;
 use serving::ends::no_sets;
 use survey::scan::no_lead;
 use survey::sets::put_marks;
+use task::Hold;
 
 // A kernel at work, and the sets so far.
 pub struct Working {
@@ -61,7 +63,18 @@ pub(crate) fn trigger_all(mut k: State, interrupt: u8) -> Working
     Working { state: k, sets: s }
 }
 
-// Each declared task's turn at a tick: those that something comes to, since the others stay as they are. No turn makes a
+// Whether something may come at n to a task that is held so, with this next due. It comes to no other.
+fn may_come(hold: Hold, next: Instant, n: Instant) -> bool
+    ensures { λ r. ⌜ r ≡ mayCome hold next n ⌝ }
+{
+    match hold {
+        Hold::Unheld => next.0 == n.0,
+        Hold::Suspended => next.0 == n.0,
+        Hold::Delayed(_) => true,
+    }
+}
+
+// Each declared task's turn at a tick: those that something may come to; the others stay as they are. No turn makes a
 // task less urgent, so the task that ran or one that had its turn runs. No turn begins a wait, so nobody is served.
 pub(crate) fn ticked(mut k: State, r: Running) -> Stepped
     requires { ⌜ valid day k ≡ true ⌝ }
@@ -86,7 +99,7 @@ pub(crate) fn ticked(mut k: State, r: Running) -> Stepped
         let hold = t.hold;
         let schedule = t.schedule;
         let alarm = schedule.alarm;
-        if alarm.falls_on(n) | hold.ends_at(n) {
+        if may_come(hold, alarm.next, n) {
             let whole = k.tasks[i];
             let u = whole.tick(n);
             let after = u.task;

@@ -5,10 +5,12 @@ ghost use Rattle.calendar.specs.Limits.{day};
 ghost use Rattle.record.specs.Reading.{numberOf, callWith};
 ghost use Rattle.machine.specs.Running.{runner};
 ghost use Rattle.machine.specs.Test.{valid};
+ghost use Rattle.machine.specs.Sorts.{sortOf, placeOf};
 ghost use Rattle.machine.specs.Refusals.{formalRefusal};
 ghost use Rattle.machine.specs.Step.{settle, step};
+ghost use Rattle.refusals.specs.Inner.{aboutOne};
 use crate::changes::change_of;
-use crate::changes::place_of;
+use crate::changes::runner_at;
 use crate::clock::interrupted;
 use crate::clock::ticked;
 use crate::declarations::answered;
@@ -20,12 +22,14 @@ use layout::Head;
 use layout::Numbers;
 use look::survey;
 use machine::Running;
+use machine::Sort;
 use machine::State;
 use machine::Stepped;
 use record::Read;
 use refusals::formal::admit;
 use refusals::sorts::is_about_one;
 use refusals::sorts::is_declaring;
+use refusals::sorts::is_naming;
 use refusals::sorts::is_ticking;
 use refusals::sorts::sort_of;
 use refusals::state::state_refusal;
@@ -33,31 +37,22 @@ use serving::ends::finished;
 use serving::ends::no_sets;
 use survey::sets::put_marks;
 
-// A call or declaration that no formal ground refuses: its state refusals, or what it does.
-fn carry_out(mut k: State, h: Head, list: Numbers, r: Running) -> Stepped
+// A call about task i and the locks: what refuses it, or what it does.
+fn done_to(mut k: State, i: usize, sort: Sort, h: Head, list: Numbers, r: Running) -> Stepped
     requires { ⌜ valid day k ≡ true ⌝ }
     requires { ⌜ r ≡ runner k ⌝ }
     requires { ⌜ formalRefusal day (k .counts) (k .begun) (callWith h list) ≡ 0 ⌝ }
+    requires { ⌜ sort ≡ sortOf (h .mark) ⌝ }
+    requires { ⌜ aboutOne sort ≡ true ⌝ }
+    requires { ⌜ i ≡ placeOf sort h r ⌝ }
     ensures { λ s. ⌜ s ≡ settle day k (callWith h list) ⌝ }
 {
-    let mark = h.mark;
-    let sort = sort_of(mark);
-    if is_declaring(sort) {
-        return declared(k, h, r);
-    }
-    let i = place_of(sort, h, r);
     let t = k.tasks[i];
     let locks = k.locks;
     let now = k.now;
     let number = state_refusal(sort, h, list, r, t, locks, now);
     if number != 0 {
         return answered(k, number, r);
-    }
-    if is_ticking(sort) {
-        return ticked(k, r);
-    }
-    if !is_about_one(sort) {
-        return interrupted(k, h);
     }
     let c = change_of(sort, h, list, t, locks, k.clock, now);
     let task = c.task;
@@ -93,7 +88,21 @@ pub fn step_on(k: State, s: &[u8], r: Running) -> Stepped
     let Read::Accepted(head) = answer else {
         return answered(k, number_of(answer), r);
     };
-    carry_out(k, head, list, r)
+    let mark = head.mark;
+    let sort = sort_of(mark);
+    if is_declaring(sort) {
+        return declared(k, head, r);
+    }
+    if is_ticking(sort) {
+        return ticked(k, r);
+    }
+    if !is_about_one(sort) {
+        return interrupted(k, head);
+    }
+    if is_naming(sort) {
+        return done_to(k, head.number as usize, sort, head, list, r);
+    }
+    done_to(k, runner_at(r), sort, head, list, r)
 }
 
 // The machine's step. A tick before the next event takes the short way.

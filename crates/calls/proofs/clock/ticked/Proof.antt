@@ -12,7 +12,7 @@ use Rattle.calendar.specs.declared.Instant.{Instant}
 use Rattle.layout.specs.declared.Mark.the-variants.{TI}
 use Rattle.layout.specs.declared.Call.{Call}
 use Rattle.task.specs.Turns.{tickTurn}
-use Rattle.task.proofs.Laws.{comes-parts, still}
+use Rattle.task.proofs.Laws.{still}
 use Rattle.task.proofs.Waits.{no-wait-tick}
 use Rattle.machine.specs.State.{mostTasks, taskAt, withState}
 use Rattle.machine.specs.Running.{runningOf}
@@ -26,6 +26,7 @@ use Rattle.machine.specs.declared.Running.{Running}
 use Rattle.machine.proofs.Passed.{tested}
 use Rattle.survey.proofs.Owned.{Owned, tasks-long}
 use Rattle.calls.proofs.EveryTask.{Made, made-none, made-all, made-more, made-still, every-idle, every-unserved, tick-early, tick-late}
+use Rattle.calls.proofs.StirLaws.{nothing-comes}
 use Rattle.calls.proofs.TickRuns.{Leading, leading-none, leading-from, leading-more, leading-still, runs-below}
 use Rattle.calls.proofs.clock.ticked.Statement.{statement}
 use Rattle.calls.proofs.clock.ticked.Tie as tie
@@ -92,7 +93,7 @@ abbrev J : Type 0
 J = tie.Joined2 Inv-loop μ-loop
 
 abbrev here : J → I
-here c = c .before .before .before .before .before .before
+here c = c .before .before .before .before .before
 
 made : (c : J) → let l = here c in
     Made (tickTurn (moment (passed l))) (state (passed l)) (l .before .loop .i + 1) (c .if2 .k) (c .if2 .s)
@@ -105,7 +106,7 @@ made c =
     let t = taskAt (l .before .loop .k .tasks) i in
     ⊎-elim
     (λ w. made-more f k i (less l) (l .before .loop .inv .1) (w .2 .result) (w .2 .ensures) (w .7) (w .8 ∙ w .4 .ensures))
-    (λ w. made-still f k i (less l) (l .before .loop .inv .1) (still n t (comes-parts n t ∙ rw (← c .before .before .falls-on .ensures, ← c .before .ends-at .ensures) (w .0 .left))) (w .1) (w .2))
+    (λ w. made-still f k i (less l) (l .before .loop .inv .1) (still n t (nothing-comes n t (sym (c .before .may-come .ensures) ∙ w .0 .left))) (w .1) (w .2))
     (c .if2 .came)
 
 led : (c : J) → let l = here c in Leading (c .if2 .k .tasks) (state (passed l) .counts .tasks) (c .if2 .lead)
@@ -198,35 +199,32 @@ mul-t c = omega (arith, inside c)
 element-copy-out-t : tie.Need-element-copy-out-t Inv-loop μ-loop
 element-copy-out-t c = omega (arith, inside c)
 
-falls-on-requires : tie.Need-falls-on-requires Inv-loop μ-loop
-falls-on-requires c κs = search needs
-
-ends-at-requires : tie.Need-ends-at-requires Inv-loop μ-loop
-ends-at-requires c κs = search needs
+may-come-requires : tie.Need-may-come-requires Inv-loop μ-loop
+may-come-requires c κs = search needs
 
 mul-whole : tie.Need-mul-whole Inv-loop μ-loop
-mul-whole c = omega (arith, inside (c .before .before .before .before .before .before))
+mul-whole c = omega (arith, inside (c .before .before .before .before .before))
 
 element-copy-out-whole : tie.Need-element-copy-out-whole Inv-loop μ-loop
-element-copy-out-whole c = omega (arith, inside (c .before .before .before .before .before .before))
+element-copy-out-whole c = omega (arith, inside (c .before .before .before .before .before))
 
 tick-requires : tie.Need-tick-requires Inv-loop μ-loop
-tick-requires c κs = omega (arith, in-time (passed (c .before .before .before .before .before .before .before)))
+tick-requires c κs = omega (arith, in-time (passed (c .before .before .before .before .before .before)))
 
 mul-after : tie.Need-mul-after Inv-loop μ-loop
-mul-after c = omega (arith, inside (c .before .before .before .before .before .before .before .before .before))
+mul-after c = omega (arith, inside (c .before .before .before .before .before .before .before .before))
 
 element-set-from-after : tie.Need-element-set-from-after Inv-loop μ-loop
-element-set-from-after c = omega (arith, inside (c .before .before .before .before .before .before .before .before .before))
+element-set-from-after c = omega (arith, inside (c .before .before .before .before .before .before .before .before))
 
 put-marks-requires : tie.Need-put-marks-requires Inv-loop μ-loop
-put-marks-requires c κs = omega (arith, inside (c .before .before .before .before .before .before .before .before .before))
+put-marks-requires c κs = omega (arith, inside (c .before .before .before .before .before .before .before .before))
 
 is-runnable-requires : tie.Need-is-runnable-requires Inv-loop μ-loop
 is-runnable-requires c κs = search needs
 
 against-if-requires-2 : tie.Need-against-if-requires-2 Inv-loop μ-loop
-against-if-requires-2 c κs = omega (arith, inside (c .before .before .before .before .before .before .before .before .before .before .before))
+against-if-requires-2 c κs = omega (arith, inside (c .before .before .before .before .before .before .before .before .before .before))
 
 add-i : tie.Need-add-i Inv-loop μ-loop
 add-i c = omega (arith, inside (here c))
@@ -279,8 +277,7 @@ ticked-spec =
     loop-holds
     mul-t
     element-copy-out-t
-    falls-on-requires
-    ends-at-requires
+    may-come-requires
     mul-whole
     element-copy-out-whole
     tick-requires

@@ -1,21 +1,71 @@
--- A tick goes its own way; then the formal refusals, then the rest.
+-- A tick goes its own way; then the formal refusals; then declarations, ticks, interrupts, and what is about one task.
 use borrow.Author.Needs.{needs}
-use mathlib.Core.Path.{sym, ap, _∙_}
+use borrow.Author.Tests.{ltb-true, not-true, not-false}
+use mathlib.Core.Path.{_≡_, sym, ap, _∙_}
+use mathlib.Core.Bool.{true}
+use mathlib.Core.List.{List}
 use Prim.Native.Nat.{ℕ}
 use denote.Ref.{now}
 use Rattle.calendar.specs.Limits.{day}
 use Rattle.layout.specs.Fields.{callOf}
+use Rattle.layout.specs.declared.Head.{Head}
 use Rattle.layout.specs.declared.Mark.the-variants.{TI}
-use Rattle.record.specs.Reading.{numberOf}
+use Rattle.record.specs.Reading.{numberOf, callWith}
+use Rattle.machine.specs.declared.Sort.the-variants.{AnInterrupt}
+use Rattle.machine.specs.declared.State.{State}
 use Rattle.machine.specs.Scripts.{oneTick}
-use Rattle.machine.specs.Step.{refuse, step}
+use Rattle.machine.specs.Sorts.{declaring, declares}
+use Rattle.machine.specs.Refusals.{formalRefusal, declaredBy}
+use Rattle.machine.specs.Step.{refuse, settle, step}
 use Rattle.machine.proofs.Quiet.{tick-step}
 use Rattle.survey.proofs.Owned.{tasks-long}
-use Rattle.calls.proofs.StirLaws.{tick-bytes}
+use Rattle.refusals.specs.Inner.{aboutOne}
 use Rattle.refusals.proofs.Admitting.{admitted-formal}
-use Rattle.calls.proofs.CallLaws.{step-refused, step-admitted}
+use Rattle.calls.proofs.StirLaws.{tick-bytes}
+use Rattle.calls.proofs.CallLaws.{past, settled-declared, settled-interrupt, settled-tick, step-refused, step-admitted}
+use Rattle.calls.proofs.ChangeLaws.{interrupt-left, tick-left}
 use Rattle.calls.proofs.step.step_on.Statement.{statement}
 use Rattle.calls.proofs.step.step_on.Tie as tie
+
+-- Where the call is read.
+abbrev K : Type 0
+K = tie.After-known-told
+
+abbrev read : K → tie.After-admit
+read c = c .before .before .before .before
+
+abbrev start : K → tie.Start
+start c = read c .before .before .before .before .before
+
+abbrev state : K → State
+state c = start c .args .k
+
+abbrev head : K → Head
+head c = c .before .answer .given .0 .0
+
+abbrev list : K → List ℕ
+list c = read c .admit .result .list
+
+formed : (c : K) → formalRefusal day (state c .counts) (state c .begun) (callWith (head c) (list c)) ≡ 0
+formed c = admitted-formal day _ _ _ (read c .admit .ensures) (c .before .answer .given .1)
+
+settled : (c : K) → settle day (state c) (callWith (head c) (list c)) ≡ step day (state c) (now (start c .args .s))
+settled c = step-admitted day _ _ (start c .pre .0) (read c .admit .ensures) (c .before .answer .given .1)
+
+-- The sort is about an interrupt,
+signal : (c : tie.Then4) → c .before .before .before .before .before .before .sort-of .result ≡ AnInterrupt
+signal c =
+    let t = c .before .before in
+    let d = t .before .before in
+    interrupt-left _ (sym (d .before .is-declaring .ensures) ∙ d .if2 .left)
+    (sym (c .before .is-about-one .ensures) ∙ not-true (c .before .is-about-one .result) (c .if4 .taken)) (sym (t .before .is-ticking .ensures) ∙ t .if3 .left)
+
+-- or about one task.
+abbrev sort-at : tie.Else4 → tie.After-sort-of
+sort-at c = c .before .before .before .before .before .before
+
+about : (c : tie.Else4) → aboutOne (sort-at c .sort-of .result) ≡ true
+about c = sym (c .before .is-about-one .ensures) ∙ not-false (c .before .is-about-one .result) (c .if4 .left)
 
 returns : tie.Need-returns
 returns c =
@@ -24,12 +74,6 @@ returns c =
     c .ticked .ensures (callOf TI oneTick)
     ∙ sym (tick-step day (a .k) (tasks-long (a .k) (s .good .0 .0, s .good .0 .1 .1)) (s .pre .0) (callOf TI oneTick))
     ∙ ap (step day (a .k)) (sym (tick-bytes (now (a .s)) (sym (c .before .before .is-tick .ensures) ∙ c .before .if1 .taken)))
-
-carry-out-requires : tie.Need-carry-out-requires
-carry-out-requires c κs =
-    let o = c .before .before .before .before in
-    let s = o .before .before .before .before .before in
-    (s .pre .0, (s .pre .1, admitted-formal day _ _ _ (o .admit .ensures) (c .before .answer .given .1)))
 
 returns-2 : tie.Need-returns-2
 returns-2 c =
@@ -40,11 +84,59 @@ returns-2 c =
     c .answered .ensures ∙ ap (λ (m : ℕ). refuse (s .args .k) m (s .args .r)) (n .number-of .ensures ∙ ap numberOf e)
     ∙ step-refused day _ _ (s .pre .0) (o .admit .ensures) e (s .pre .1)
 
+declared-requires : tie.Need-declared-requires
+declared-requires c κs = let q = c .before .before .before in (start q .pre .1, (list q, formed q))
+
 returns-3 : tie.Need-returns-3
+unfolding declares
 returns-3 c =
-    let o = c .before .before .before .before .before in
-    let s = o .before .before .before .before .before in
-    c .carry-out .ensures ∙ step-admitted day _ _ (s .pre .0) (o .admit .ensures) (c .before .before .answer .given .1)
+    let d = c .before .before in
+    let q = d .before .before in
+    c .declared .ensures (list q)
+    ∙ settled-declared day (state q) (head q) (list q) (ap declaring (sym (d .before .sort-of .ensures)) ∙ sym (d .is-declaring .ensures) ∙ c .before .if2 .taken)
+    ∙ settled q
+
+returns-4 : tie.Need-returns-4
+returns-4 c =
+    let t = c .before .before in
+    let o = t .before .before .before in
+    let q = o .before in
+    c .ticked2 .ensures (callWith (head q) (list q))
+    ∙ settled-tick day (state q) (head q) (list q) (sym (o .sort-of .ensures) ∙ tick-left _ (sym (t .is-ticking .ensures) ∙ c .before .if3 .taken))
+    ∙ settled q
+
+interrupted-requires : tie.Need-interrupted-requires
+unfolding declaredBy
+interrupted-requires c κs =
+    let o = c .before .before .before .before .before .before in
+    let q = o .before in
+    (start q .pre .0, ltb-true _ _ (rw (sym (o .sort-of .ensures) ∙ signal c) at (past day (state q) (head q) (list q) (formed q) .known)))
+
+returns-5 : tie.Need-returns-5
+returns-5 c =
+    let o = c .before .before .before .before .before .before .before in
+    let q = o .before in
+    c .interrupted .ensures ∙ settled-interrupt day (state q) (head q) (list q) (sym (o .sort-of .ensures) ∙ signal (c .before)) ∙ settled q
+
+done-to-requires : tie.Need-done-to-requires
+done-to-requires c κs =
+    let t = c .before in
+    let e = t .before .before in
+    let q = sort-at e .before in
+    (start q .pre .0, (start q .pre .1, (formed q, (sort-at e .sort-of .ensures, (about e, rw (← t .before .is-naming .ensures, t .if5 .taken))))))
+
+returns-6 : tie.Need-returns-6
+returns-6 c = c .done-to .ensures ∙ settled (sort-at (c .before .before .before .before) .before)
+
+done-to-requires-2 : tie.Need-done-to-requires-2
+done-to-requires-2 c κs =
+    let t = c .before in
+    let e = t .before .before in
+    let q = sort-at e .before in
+    (start q .pre .0, (start q .pre .1, (formed q, (sort-at e .sort-of .ensures, (about e, rw (← t .before .is-naming .ensures, t .if5 .left, c .runner-at .ensures))))))
+
+returns-7 : tie.Need-returns-7
+returns-7 c = c .done-to2 .ensures ∙ settled (sort-at (c .before .before .before .before) .before)
 
 pub step-on-spec : {M : Type 1} → statement M
 step-on-spec =
@@ -59,5 +151,20 @@ step-on-spec =
     (λ c κs. search needs)
     (λ c κs. search needs)
     returns-2
-    carry-out-requires
-    returns-3)
+    (λ c κs. search needs)
+    (λ c κs. search needs)
+    declared-requires
+    returns-3
+    (λ c κs. search needs)
+    (λ c κs. search needs)
+    returns-4
+    (λ c κs. search needs)
+    interrupted-requires
+    returns-5
+    (λ c κs. search needs)
+    (λ c. search needs)
+    done-to-requires
+    returns-6
+    (λ c κs. search needs)
+    done-to-requires-2
+    returns-7)

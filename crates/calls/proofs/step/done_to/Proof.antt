@@ -1,0 +1,112 @@
+-- What the state refuses, or the change of the task that the call is about.
+use borrow.Author.Needs.{needs}
+use mathlib.Core.Path.{_≡_, sym, ap, _∙_}
+use mathlib.Core.Bool.{true}
+use Prim.Native.Nat.{_<_}
+use native.Mathlib.Omega.{arith}
+use Rattle.calendar.specs.Limits.{day}
+use Rattle.record.specs.Reading.{callWith}
+use Rattle.machine.specs.State.{mostTasks}
+use Rattle.machine.specs.Running.{runner}
+use Rattle.machine.specs.Sorts.{sortOf, placeOf}
+use Rattle.machine.specs.Refusals.{formalRefusal, stateRefusal}
+use Rattle.refusals.specs.Inner.{aboutOne}
+use Rattle.calls.proofs.TurnCases.{sound}
+use Rattle.calls.proofs.CallLaws.{in-order, place-in, ground, settled-refused}
+use Rattle.calls.proofs.ChangeLaws.{returnable, change-waits, change-done}
+use Rattle.calls.proofs.step.done_to.Statement.{statement}
+use Rattle.calls.proofs.step.done_to.Tie as tie
+
+-- What is known at the start.
+formed : (s : tie.Start) → let a = s .args in formalRefusal day (a .t1 .counts) (a .t1 .begun) (callWith (a .h) (a .list)) ≡ 0
+formed s = s .pre .1 .1 .0
+
+sorted : (s : tie.Start) → s .args .sort ≡ sortOf (s .args .h .mark)
+sorted s = s .pre .1 .1 .1 .0
+
+about : (s : tie.Start) → aboutOne (s .args .sort) ≡ true
+about s = s .pre .1 .1 .1 .1 .0
+
+here : (s : tie.Start) → let a = s .args in a .i ≡ placeOf (a .sort) (a .h) (runner (a .t1))
+here s = let a = s .args in s .pre .1 .1 .1 .1 .1 ∙ ap (placeOf (a .sort) (a .h)) (s .pre .1 .0)
+
+placed : (s : tie.Start) → s .args .i < mostTasks
+placed s = let a = s .args in rw (here s) (place-in day (a .t1) (a .h) (a .list) (formed s) (s .pre .0) (a .sort) (sorted s))
+
+-- Where the state refuses nothing.
+abbrev start : tie.Else1 → tie.Start
+start c = c .before .before .before .before .before
+
+passed : (c : tie.Else1) → let a = start c .args in stateRefusal (a .h .mark) (a .t1) (callWith (a .h) (a .list)) ≡ 0
+passed c =
+    let s = start c in
+    let a = s .args in
+    sym (ground day (a .t1) (a .h) (a .list) (s .pre .1 .0) (sorted s) (s .pre .1 .1 .1 .1 .1) (c .before .state-refusal .ensures)) ∙ c .if1 .left
+
+mul-t : tie.Need-mul-t
+mul-t c = omega (arith, placed c)
+
+element-copy-out-t : tie.Need-element-copy-out-t
+element-copy-out-t c = placed c
+
+state-refusal-requires : tie.Need-state-refusal-requires
+state-refusal-requires c κs =
+    let s = c .before .before .before in
+    let a = s .args in
+    (sorted s, in-order day (a .t1) (a .h) (a .list) (formed s) (s .pre .0))
+
+returns : tie.Need-returns
+returns c =
+    let n = c .before .before in
+    let s = n .before .before .before .before in
+    let a = s .args in
+    c .answered .ensures
+    ∙ settled-refused day (a .t1) (a .h) (a .list) (s .pre .1 .0)
+    (ground day (a .t1) (a .h) (a .list) (s .pre .1 .0) (sorted s) (s .pre .1 .1 .1 .1 .1) (n .state-refusal .ensures)) (c .before .if1 .taken)
+
+change-of-requires : tie.Need-change-of-requires
+change-of-requires c κs =
+    let s = start c in
+    let a = s .args in
+    (sound day (a .t1) (s .pre .0) .now, (in-order day (a .t1) (a .h) (a .list) (formed s) (s .pre .0), (sorted s, returnable day (a .t1) (a .h) (a .list) (s .pre .0) (formed s) (passed c) (sorted s))))
+
+mul-task : tie.Need-mul-task
+mul-task c = omega (arith, placed (start (c .before .before .before)))
+
+element-set-from-task : tie.Need-element-set-from-task
+element-set-from-task c = placed (start (c .before .before .before))
+
+put-marks-requires : tie.Need-put-marks-requires
+put-marks-requires c κs = placed (start (c .before .before .before .before))
+
+finished-requires : tie.Need-finished-requires
+finished-requires c κs =
+    let x = c .before .before .before .before in
+    let s = start (x .before) in
+    let a = s .args in
+    change-waits day (a .t1) (a .h) (a .list) (s .pre .0) (formed s) (passed (x .before)) (sorted s) (about s) (here s) (x .change-of .ensures (a .t1 .counts .tasks) (a .t1 .tasks))
+
+returns-2 : tie.Need-returns-2
+returns-2 c =
+    let x = c .before .before .before .before .before in
+    let s = start (x .before) in
+    let a = s .args in
+    c .finished .ensures
+    ∙ change-done day (a .t1) (a .h) (a .list) (s .pre .0) (formed s) (passed (x .before)) (sorted s) (about s) (here s) (x .change-of .ensures (a .t1 .counts .tasks) (a .t1 .tasks)) (c .before .before .no-sets .ensures) (c .before .put-marks .ensures)
+
+pub done-to-spec : {M : Type 1} → statement M
+done-to-spec =
+    tie.close
+    (tie.spec
+    mul-t
+    element-copy-out-t
+    state-refusal-requires
+    (λ c κs. search needs)
+    returns
+    change-of-requires
+    mul-task
+    element-set-from-task
+    (λ c κs. search needs)
+    put-marks-requires
+    finished-requires
+    returns-2)
