@@ -1,6 +1,6 @@
--- A tick before the next event, tasks to which nothing comes, and the bytes of a tick.
+-- A tick before the next event, and the bytes of a tick.
 use mathlib.Core.Path.{_≡_, refl, sym, _∙_}
-use mathlib.Core.Bool.{Bool, true, false, not, _&&_, _||_, and-false}
+use mathlib.Core.Bool.{Bool, true, false, not, _&&_}
 use mathlib.Core.List.{List, [], _∷_}
 use Prim.Native.Nat.{ℕ, zero, suc, _+_, _≤_, _<_}
 use native.Mathlib.Omega.{arith}
@@ -15,13 +15,6 @@ use Rattle.calendar.proofs.Moments.{up-to-before}
 use Rattle.layout.specs.Fields.{bytesOf}
 use Rattle.lock.proofs.Bools.{byBool, contra, both}
 use Rattle.record.specs.Lists.{allZero}
-use Rattle.task.specs.Alarms.{falls}
-use Rattle.task.specs.Coming.{comes}
-use Rattle.task.specs.Turns.{delayEnds}
-use Rattle.task.specs.declared.Hold.{Hold}
-use Rattle.task.specs.declared.Hold.the-variants.{Unheld, Suspended, Delayed}
-use Rattle.task.specs.declared.Task.{Task}
-use Rattle.task.proofs.Laws.{comes-parts}
 use Rattle.machine.specs.NextEvent.{nextEvent}
 use Rattle.machine.specs.Scripts.{oneTick}
 use Rattle.machine.specs.State.{mostTasks, begunAt}
@@ -35,7 +28,7 @@ use Rattle.machine.proofs.Passed.{parts}
 use Rattle.machine.proofs.Quiet.{quiet-step}
 use Rattle.survey.specs.declared.Survey.{Survey}
 use Rattle.survey.specs.Looks.{surveyed}
-use Rattle.calls.specs.Stirring.{isTick, mayCome}
+use Rattle.calls.specs.Stirring.{isTick}
 
 -- A tick before the next event: n and r are what was said of the next instant and the runner.
 pub quiet-tick :
@@ -79,17 +72,6 @@ module _ (day : ℕ) (k : State) {v : Survey} (e : v ≡ surveyed day k) where
     said-quiet f l =
         let p = up-to-before (lastInstant + 1) (nextEvent k) (k .now .0 + 1) (rw (f, said-next) at l) in
         (p .1, omega arith)
-
--- ---- to whom nothing comes
-
--- Nothing comes to a task to which nothing may come.
-pub nothing-comes : (n : Instant) (t : Task) → mayCome (t .hold) (t .schedule .alarm .next) n ≡ false → comes n t ≡ false
-nothing-comes n t e = comes-parts n t ∙ parts-none (t .hold) e
-  where
-    parts-none : (h : Hold) → mayCome h (t .schedule .alarm .next) n ≡ false → (falls n (t .schedule .alarm) || delayEnds n h) ≡ false
-    parts-none Unheld e = rw (e, and-false)
-    parts-none Suspended e = rw (e, and-false)
-    parts-none (Delayed d) e = contra refl e
 
 -- ---- the bytes of a tick
 

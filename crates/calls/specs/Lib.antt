@@ -1,3 +1,2 @@
 -- Names for the contracts of the code's inner functions.
-pub mod Inner
 pub mod Stirring

@@ -11,13 +11,13 @@ ghost use Rattle.machine.specs.Scripts.{oneTick};
 ghost use Rattle.machine.specs.Step.{step};
 ghost use Rattle.machine.specs.Test.{valid};
 ghost use Rattle.calls.specs.Stirring.{isTick};
-use crate::declarations::answered;
 use calendar::Duration;
 use layout::RECORD_LENGTH;
 use machine::Running;
 use machine::State;
 use machine::Stepped;
 use record::lists::zeros;
+use serving::ends::answered;
 use serving::ends::begun_at;
 
 // Whether a record is a tick.

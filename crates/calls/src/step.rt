@@ -9,15 +9,12 @@ ghost use Rattle.machine.specs.Sorts.{sortOf, placeOf};
 ghost use Rattle.machine.specs.Refusals.{formalRefusal};
 ghost use Rattle.machine.specs.Step.{settle, step};
 ghost use Rattle.refusals.specs.Inner.{aboutOne};
-use crate::changes::change_of;
-use crate::changes::runner_at;
-use crate::clock::interrupted;
-use crate::clock::ticked;
-use crate::declarations::answered;
-use crate::declarations::declared;
 use crate::quiet::is_tick;
 use crate::quiet::quiet_tick;
 use calendar::LAST_INSTANT;
+use changes::change_of;
+use changes::declarations::declared;
+use changes::runner_at;
 use layout::Head;
 use layout::Numbers;
 use look::survey;
@@ -33,9 +30,12 @@ use refusals::sorts::is_naming;
 use refusals::sorts::is_ticking;
 use refusals::sorts::sort_of;
 use refusals::state::state_refusal;
+use serving::ends::answered;
 use serving::ends::finished;
 use serving::ends::no_sets;
 use survey::sets::put_marks;
+use ticks::interrupted;
+use ticks::ticked;
 
 // A call about task i and the locks: what refuses it, or what it does.
 fn done_to(mut k: State, i: usize, sort: Sort, h: Head, list: Numbers, r: Running) -> Stepped

@@ -1,3 +1,5 @@
 -- Laws that the proofs of the code share.
 pub mod WaitLaws
 pub mod ServeLaws
+pub mod TurnCases
+pub mod AskLaws

@@ -6,7 +6,7 @@ ghost use Rattle.machine.specs.Granting.{servable};
 ghost use Rattle.machine.specs.Serving.{nextServed, grantTo};
 ghost use Rattle.machine.specs.Sets.{noSets};
 ghost use Rattle.machine.specs.State.{begunAt};
-ghost use Rattle.machine.specs.Step.{plainAnswer, finish};
+ghost use Rattle.machine.specs.Step.{plainAnswer, finish, refuse};
 ghost use Rattle.machine.specs.Work.{onlyEnabled};
 ghost use Rattle.survey.specs.Looks.{waitsOk};
 ghost use Rattle.serving.specs.Ends.{served, withServed, servedOf, workHere, answerOf};
@@ -207,4 +207,14 @@ pub fn done(k: State) -> Stepped
     ensures { λ s. ⌜ s ≡ finish k (onlyEnabled k (k .enabled)) ⌝ }
 {
     finished(k, no_sets())
+}
+
+// An answer with empty sets.
+pub fn answered(k: State, number: u8, running: Running) -> Stepped
+    ensures { λ r. ⌜ r ≡ refuse k number running ⌝ }
+{
+    Stepped {
+        state: k,
+        answer: plain(number, running),
+    }
 }

@@ -11,9 +11,9 @@ use Rattle.machine.specs.Running.{runner}
 use Rattle.machine.specs.Sorts.{sortOf, placeOf}
 use Rattle.machine.specs.Refusals.{formalRefusal, stateRefusal}
 use Rattle.refusals.specs.Inner.{aboutOne}
-use Rattle.calls.proofs.TurnCases.{sound}
-use Rattle.calls.proofs.CallLaws.{in-order, place-in, ground, settled-refused}
-use Rattle.calls.proofs.ChangeLaws.{returnable, change-waits, change-done}
+use Rattle.serving.proofs.TurnCases.{sound}
+use Rattle.changes.proofs.CallLaws.{in-order, place-in, ground, settled-refused}
+use Rattle.changes.proofs.ChangeLaws.{returnable, change-waits, change-done}
 use Rattle.calls.proofs.step.done_to.Statement.{statement}
 use Rattle.calls.proofs.step.done_to.Tie as tie
 

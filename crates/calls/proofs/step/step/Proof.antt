@@ -7,7 +7,7 @@ use Rattle.calendar.specs.Limits.{day}
 use Rattle.machine.specs.Step.{step}
 use Rattle.machine.specs.Test.{valid}
 use Rattle.machine.specs.declared.State.{State}
-use Rattle.calls.proofs.CallLaws.{step-1}
+use Rattle.changes.proofs.CallLaws.{step-1}
 use Rattle.calls.proofs.StirLaws.{said-unfit, said-fit, said-runner, in-time, said-quiet, tick-bytes}
 use borrow.Author.Needs.{needs}
 use Rattle.calls.proofs.step.step.Statement.{statement}

@@ -22,8 +22,8 @@ use Rattle.survey.proofs.Owned.{tasks-long}
 use Rattle.refusals.specs.Inner.{aboutOne}
 use Rattle.refusals.proofs.Admitting.{admitted-formal}
 use Rattle.calls.proofs.StirLaws.{tick-bytes}
-use Rattle.calls.proofs.CallLaws.{past, settled-declared, settled-interrupt, settled-tick, step-refused, step-admitted}
-use Rattle.calls.proofs.ChangeLaws.{interrupt-left, tick-left}
+use Rattle.changes.proofs.CallLaws.{past, settled-declared, settled-interrupt, settled-tick, step-refused, step-admitted}
+use Rattle.changes.proofs.ChangeLaws.{interrupt-left, tick-left}
 use Rattle.calls.proofs.step.step_on.Statement.{statement}
 use Rattle.calls.proofs.step.step_on.Tie as tie
 

@@ -1,0 +1,176 @@
+-- What a call or declaration that no formal ground refuses has passed, and what it comes to.
+use mathlib.Core.Path.{_≡_, refl, sym, ap, _∙_}
+use mathlib.Core.Bool.{Bool, true, false, _&&_}
+use mathlib.Core.List.{List, []}
+use Prim.Native.Nat.{ℕ, zero, suc, _≤_, _<_, _%_}
+use native.Mathlib.Omega.{arith}
+use lib.Dec.{leb, ltb}
+use borrow.Author.Tests.{leb-true, ltb-true}
+use Rattle.layout.specs.Marks.{form}
+use Rattle.layout.specs.declared.Call.{Call}
+use Rattle.layout.specs.declared.Head.{Head}
+use Rattle.layout.specs.declared.Mark.{Mark}
+use Rattle.layout.specs.declared.Mark.the-variants.{DS, TI}
+use Rattle.layout.specs.declared.Form.the-variants.{Preset}
+use Rattle.layout.proofs.MarksLaws.{is-mark}
+use Rattle.record.specs.Lists.{distinct}
+use Rattle.record.specs.Reading.{callWith}
+use Rattle.record.specs.Refusals.{mostNumbers, mostValue, named, uses, cleanNames, cleanStart, ranged}
+use Rattle.record.specs.declared.Read.the-variants.{Refused, Accepted}
+use Rattle.record.specs.declared.Reading.{Reading}
+use Rattle.lock.specs.Locks.{mostLocks, every}
+use Rattle.lock.specs.declared.Wait.{Wait}
+use Rattle.lock.proofs.Bools.{byBool, contra, both}
+use Rattle.machine.specs.declared.State.{State}
+use Rattle.machine.specs.declared.Running.{Running}
+use Rattle.machine.specs.declared.Running.the-variants.{Idle, Runs}
+use Rattle.machine.specs.declared.Sort.{Sort}
+use Rattle.machine.specs.declared.Sort.the-variants.{Declaration, OneTask, TheRunner, ListAsked, ListGiven, AnInterrupt, EveryTask}
+use Rattle.machine.specs.declared.Stepped.{Stepped}
+use Rattle.machine.specs.State.{mostTasks, taskAt}
+use Rattle.machine.specs.Running.{runner}
+use Rattle.machine.specs.Test.{valid}
+use Rattle.machine.specs.Sorts.{sortOf, declaring, declares, placeOf, runnerAt}
+use Rattle.machine.specs.Refusals.{listDeclared, declaredBy, formalRefusal, admitted, refusalBy, stateRefusal}
+use Rattle.machine.specs.Calls.{declaration, tick, interruptBy, workBy}
+use Rattle.machine.specs.Step.{refuse, declared, finish, orRefuse, carryOut, settle, stepRead, step}
+use Rattle.machine.proofs.Urgency.{Below, runner-below}
+use Rattle.machine.proofs.Passed.{Formal, formal, formal-as}
+use Rattle.machine.proofs.Sorts.{listing, tick-mark, list-mark, list-shape, no-list}
+use Rattle.refusals.specs.Inner.{InOrder}
+use Rattle.serving.proofs.AskLaws.{list-below}
+use Rattle.refusals.proofs.RefusalLaws.{refusal-by}
+use Rattle.serving.proofs.TurnCases.{places-fit, sound}
+
+module _ (day : ℕ) (k : State) (h : Head) (l : List ℕ) where
+  abbrev call : Call
+  call = callWith h l
+
+  module _ (f : formalRefusal day (k .counts) (k .begun) call ≡ 0) where
+    pub past : Formal day (h .mark) (k .counts) (k .begun) call
+    past = formal day (k .counts) (k .begun) call f
+
+    -- ---- declarations
+
+    pub preset-same : h .mark ≡ DS → h .first % 65536 ≡ h .first
+    unfolding ranged
+    preset-same e =
+        let g = formal-as {day = day} {n = k .counts} {begun = k .begun} {c = call} e past .formed in
+        let b = both (cleanNames (uses Preset h) call) (cleanStart (uses Preset h) h && ranged Preset h) g .1 in
+        let m = leb-true (h .first) mostValue (both (cleanStart (uses Preset h) h) (ranged Preset h) b .1) in
+        omega (arith, m)
+
+    -- ---- the list, if there is one
+
+    declared-list : (s : Sort) → listing s ≡ true → declaredBy s (k .counts) call ≡ true → (w : Wait) × (listDeclared (k .counts) w call ≡ true)
+    unfolding declaredBy
+    declared-list Declaration e d = contra e refl
+    declared-list OneTask e d = contra e refl
+    declared-list TheRunner e d = contra e refl
+    declared-list (ListAsked w b) e d = (w, d)
+    declared-list (ListGiven w) e d = (w, d)
+    declared-list AnInterrupt e d = contra e refl
+    declared-list EveryTask e d = contra e refl
+
+    pub named-once : listing (sortOf (h .mark)) ≡ true → (1 ≤ h .len) × (h .len ≤ mostNumbers) × (distinct (named call) ≡ true)
+    named-once e =
+        let s = list-shape (form (h .mark)) call (sym (list-mark (h .mark) h) ∙ e) (past .formed) (past .listed) in
+        let b = both (leb 1 (h .len)) (leb (h .len) mostNumbers) (s .0) in
+        (leb-true _ _ (b .0), leb-true _ _ (b .1), s .1)
+
+    pub in-order : valid day k ≡ true → InOrder call
+    unfolding distinct every
+    in-order v =
+        byBool (listing (sortOf (h .mark)))
+        (λ e.
+        let (w, d) = declared-list (sortOf (h .mark)) e (past .known) in
+        let o = named-once e in
+        record { short = o .1; once = o .2; below = list-below day k v w call d })
+        (λ e.
+        let z = no-list (form (h .mark)) call (sym (list-mark (h .mark) h) ∙ e) (past .formed) in
+        record { short = omega arith; once = rw z; below = rw z })
+
+    -- ---- whom it is about
+
+    pub place-in : valid day k ≡ true → (s : Sort) → s ≡ sortOf (h .mark) → placeOf s h (runner k) < mostTasks
+    unfolding declaredBy
+    place-in v s q = go s q
+      where
+        few : k .counts .tasks ≤ mostTasks
+        few = places-fit k (sound day k v .waits)
+
+        at-runner : (r : Running) → Below (k .counts .tasks) r → runnerAt r < mostTasks
+        at-runner Idle b = omega arith
+        at-runner (Runs i) b = omega (arith, few, b)
+
+        go : (s : Sort) → s ≡ sortOf (h .mark) → placeOf s h (runner k) < mostTasks
+        go Declaration q = at-runner (runner k) (runner-below k)
+        go OneTask q = omega (arith, few, ltb-true (h .number) (k .counts .tasks) (both (ltb (h .number) (k .counts .tasks)) _ (rw (← q) at (past .known)) .0))
+        go TheRunner q = at-runner (runner k) (runner-below k)
+        go (ListAsked w b) q = at-runner (runner k) (runner-below k)
+        go (ListGiven w) q = at-runner (runner k) (runner-below k)
+        go AnInterrupt q = at-runner (runner k) (runner-below k)
+        go EveryTask q = at-runner (runner k) (runner-below k)
+
+  -- ---- what it comes to
+
+  refused-as : (n m : ℕ) (s : Stepped) {r : Running} → r ≡ runner k → n ≡ m → (n ≡ 0 → ⊥) → refuse k n r ≡ orRefuse k m s
+  refused-as zero m s e f z = absurd (z refl)
+  refused-as (suc n) m s e f z = ap (refuse k (suc n)) e ∙ ap (λ x. orRefuse k x s) f
+
+  -- What the state refuses, seen from the task i that the call is about.
+  pub ground : {r : Running} {s : Sort} {i n : ℕ} → r ≡ runner k → s ≡ sortOf (h .mark) → i ≡ placeOf s h r
+      → n ≡ refusalBy (h .mark) call r (taskAt (k .tasks) i) (k .locks) (k .now) → n ≡ stateRefusal (h .mark) k call
+  ground {r} {s} e q p g =
+      g ∙ ap (λ (x : ℕ). refusalBy (h .mark) call r (taskAt (k .tasks) x) (k .locks) (k .now)) (p ∙ ap (λ (x : Sort). placeOf x h r) q)
+      ∙ ap (λ (x : Running). refusalBy (h .mark) call x (taskAt (k .tasks) (placeOf (sortOf (h .mark)) h x)) (k .locks) (k .now)) e
+
+  pub settled-refused : {n : ℕ} {r : Running} → r ≡ runner k → n ≡ stateRefusal (h .mark) k call → (n ≡ 0 → ⊥) → refuse k n r ≡ settle day k call
+  unfolding settle
+  settled-refused {n = n} e f z = refused-as n _ _ e f z
+
+  declaration-sort : (s : Sort) → declaring s ≡ true → s ≡ Declaration
+  declaration-sort Declaration e = refl
+  declaration-sort OneTask e = contra e refl
+  declaration-sort TheRunner e = contra e refl
+  declaration-sort (ListAsked w b) e = contra e refl
+  declaration-sort (ListGiven w) e = contra e refl
+  declaration-sort AnInterrupt e = contra e refl
+  declaration-sort EveryTask e = contra e refl
+
+  pub settled-declared : declares (h .mark) ≡ true → declared k (declaration (h .mark) call k) ≡ settle day k call
+  unfolding settle carryOut declares
+  settled-declared d = let q = declaration-sort (sortOf (h .mark)) d in rw (d, ← refusal-by call (runner k) (taskAt (k .tasks) (placeOf (sortOf (h .mark)) h (runner k))) (k .locks) (k .now) (h .mark) Declaration q)
+
+  pub settled-call : declares (h .mark) ≡ false → stateRefusal (h .mark) k call ≡ 0 → {s : Sort} → s ≡ sortOf (h .mark) → finish k (workBy day s k call) ≡ settle day k call
+  unfolding settle carryOut
+  settled-call d e q = rw (d, e, q)
+
+  -- The state refuses nothing that is about an interrupt.
+  pub settled-interrupt : sortOf (h .mark) ≡ AnInterrupt → finish k (interruptBy day (h .mark) k (h .number)) ≡ settle day k call
+  unfolding declares workBy
+  settled-interrupt q =
+      settled-call (rw q) (sym (refusal-by call (runner k) (taskAt (k .tasks) (placeOf (sortOf (h .mark)) h (runner k))) (k .locks) (k .now) (h .mark) AnInterrupt q)) (sym q)
+
+  pub settled-tick : sortOf (h .mark) ≡ EveryTask → orRefuse k (stateRefusal TI k call) (finish k (tick k)) ≡ settle day k call
+  unfolding settle carryOut declares workBy
+  settled-tick q =
+      let m = is-mark (h .mark) TI (tick-mark (h .mark) q) in
+      let ticks : finish k (tick k) ≡ carryOut day k call = rw q in
+      ap (λ (x : Mark). orRefuse k (stateRefusal x k call) (finish k (tick k))) (sym m) ∙ ap (orRefuse k (stateRefusal (h .mark) k call)) ticks
+
+-- ---- the step
+
+module _ (day : ℕ) (k : State) (s : List ℕ) where
+  pub step-1 : valid day k ≡ false → refuse k 1 Idle ≡ step day k s
+  unfolding step
+  step-1 e = rw e
+
+  module _ (v : valid day k ≡ true) {r : Reading} (o : r ≡ admitted day (k .counts) (k .begun) s) where
+    pub step-refused : {n : ℕ} {x : Running} → r .answer ≡ Refused n → x ≡ runner k → refuse k n x ≡ step day k s
+    unfolding step
+    step-refused a q = rw (v, ← o, a, q)
+
+    pub step-admitted : {h : Head} → r .answer ≡ Accepted h → settle day k (callWith h (r .list)) ≡ step day k s
+    unfolding step
+    step-admitted a = rw (v, ← o, a)

@@ -1,0 +1,50 @@
+-- By whether the list could be granted, and whether the task waits.
+use borrow.Author.Needs.{needs}
+use borrow.Author.Tests.{not-true, not-false}
+use mathlib.Core.Path.{sym, _∙_}
+use mathlib.Core.List.{[]}
+use Rattle.machine.specs.Calls.{asks}
+use Rattle.machine.proofs.Granting.{could-free}
+use Rattle.changes.proofs.asked.Statement.{statement}
+use Rattle.changes.proofs.asked.Tie as tie
+
+move-all-requires : tie.Need-move-all-requires
+move-all-requires c κs =
+    let g = c .before in
+    let p = g .before .before .pre in
+    (p .short, (p .below, (p .once, could-free 0 [] _ _ _ _ (sym (g .could-be-granted .ensures 0 []) ∙ c .if1 .taken))))
+
+returns : tie.Need-returns
+unfolding asks
+returns c n ts =
+    let p = c .before .before in
+    rw (c .by-locks .ensures, c .before .move-all .ensures, ← p .before .could-be-granted .ensures n ts, p .if1 .taken)
+
+returns-2 : tie.Need-returns-2
+unfolding asks
+returns-2 c n ts =
+    let p = c .before .before in
+    let g = p .before in
+    rw (c .by-locks2 .ensures, ← g .could-be-granted .ensures n ts, p .if1 .left, not-true (g .before .before .args .waits) (c .before .if2 .taken))
+
+returns-3 : tie.Need-returns-3
+unfolding asks
+returns-3 c n ts =
+    let p = c .before .before .before in
+    let g = p .before in
+    rw (c .by-locks3 .ensures, c .before .waiting-for .ensures, ← g .could-be-granted .ensures n ts, p .if1 .left, not-false (g .before .before .args .waits) (c .before .before .if2 .left))
+
+pub asked-spec : {M : Type 1} → statement M
+asked-spec =
+    tie.close
+    (tie.spec
+    (λ c. search needs)
+    (λ c κs. search needs)
+    move-all-requires
+    (λ c κs. search needs)
+    returns
+    (λ c κs. search needs)
+    returns-2
+    (λ c κs. search needs)
+    (λ c κs. search needs)
+    returns-3)

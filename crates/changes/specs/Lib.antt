@@ -1,0 +1,2 @@
+-- Names for the contracts of the code's inner functions.
+pub mod Inner

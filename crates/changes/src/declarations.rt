@@ -1,0 +1,100 @@
+// Declarations: the next place of the kind is filled whole.
+ghost use mathlib.Core.Path.{_≡_};
+ghost use mathlib.Core.Bool.{true};
+ghost use mathlib.Core.List.{List};
+ghost use Prim.Native.Nat.{ℕ, _<_};
+ghost use Rattle.calendar.specs.Limits.{day};
+ghost use Rattle.record.specs.Reading.{callWith};
+ghost use Rattle.machine.specs.Refusals.{formalRefusal};
+ghost use Rattle.machine.specs.Running.{runner};
+ghost use Rattle.machine.specs.State.{mostTasks, mostSemaphores, mostBolts, mostInterrupts, withClock};
+ghost use Rattle.machine.specs.Calls.{addTask, addSemaphore, addBolt, addInterrupt, declaration};
+ghost use Rattle.machine.specs.Step.{declared};
+use crate::fresh::empty_bolt;
+use crate::fresh::fresh_task;
+use layout::Head;
+use layout::Mark;
+use machine::Counts;
+use machine::Running;
+use machine::State;
+use machine::Stepped;
+use serving::ends::answered;
+
+pub(crate) fn add_task(k: State, p: u8) -> State
+    requires { ⌜ k .counts .tasks < mostTasks ⌝ }
+    ensures { λ r. ⌜ r ≡ addTask p k ⌝ }
+{
+    let mut next = k;
+    let counts = k.counts;
+    let n = counts.tasks;
+    next.tasks[n as usize] = fresh_task(p);
+    next.counts.tasks = n + 1;
+    next
+}
+
+pub(crate) fn add_semaphore(k: State, v: u16) -> State
+    requires { ⌜ k .counts .semaphores < mostSemaphores ⌝ }
+    ensures { λ r. ⌜ r ≡ addSemaphore v k ⌝ }
+{
+    let old = k.counts;
+    let n = old.semaphores;
+    let mut locks = k.locks;
+    locks.semaphores[n as usize] = v;
+    let counts = Counts {
+        semaphores: n + 1,
+        ..old
+    };
+    State { locks, counts, ..k }
+}
+
+pub(crate) fn add_bolt(k: State) -> State
+    requires { ⌜ k .counts .bolts < mostBolts ⌝ }
+    ensures { λ r. ⌜ r ≡ addBolt k ⌝ }
+{
+    let old = k.counts;
+    let n = old.bolts;
+    let mut locks = k.locks;
+    locks.bolts[n as usize] = empty_bolt();
+    let counts = Counts {
+        bolts: n + 1,
+        ..old
+    };
+    State { locks, counts, ..k }
+}
+
+pub(crate) fn add_interrupt(k: State) -> State
+    requires { ⌜ k .counts .interrupts < mostInterrupts ⌝ }
+    ensures { λ r. ⌜ r ≡ addInterrupt k ⌝ }
+{
+    let mut next = k;
+    let counts = k.counts;
+    let n = counts.interrupts;
+    next.enabled[n as usize] = false;
+    next.counts.interrupts = n + 1;
+    next
+}
+
+pub(crate) fn set_clock(k: State, t: u32) -> State
+    ensures { λ r. ⌜ r ≡ withClock t k ⌝ }
+{
+    let mut next = k;
+    next.clock = t;
+    next
+}
+
+// An accepted declaration; the answer's sets are empty.
+pub fn declared(k: State, h: Head, r: Running) -> Stepped
+    requires { ⌜ r ≡ runner k ⌝ }
+    requires { ⌜ ((l : List ℕ) × (formalRefusal day (k .counts) (k .begun) (callWith h l) ≡ 0)) ⌝ }
+    ensures { λ s. ⌜ ((l : List ℕ) → s ≡ declared k (declaration (h .mark) (callWith h l) k)) ⌝ }
+{
+    let mark = h.mark;
+    match mark {
+        Mark::DT => answered(add_task(k, h.priority), 0, r),
+        Mark::DS => answered(add_semaphore(k, (h.first % 65536) as u16), 0, r),
+        Mark::DB => answered(add_bolt(k), 0, r),
+        Mark::IT => answered(add_interrupt(k), 0, r),
+        Mark::DC => answered(set_clock(k, h.first), 0, r),
+        _ => answered(k, 0, r),
+    }
+}

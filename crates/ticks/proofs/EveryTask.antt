@@ -1,0 +1,232 @@
+-- The turns of all tasks, one after the other: what the tables and the sets are with the first i turns made.
+use mathlib.Core.Path.{_≡_, refl, sym, _∙_, ap}
+use mathlib.Core.Bool.{Bool, true, false, _&&_}
+use mathlib.Core.List.{List, [], _∷_, _++_, map}
+use Prim.Native.Nat.{ℕ, zero, suc, _+_, _*_, _^_, _≤_, _<_}
+use native.Mathlib.Nat.{not-suc-le-zero, pow-suc, one-mul}
+use native.Mathlib.Numerals.{add-one}
+use native.Mathlib.Omega.{arith}
+use lib.Bits.{bitOr, or-shifted-r}
+use lib.ListN.{length, take, drop, set, length-map}
+use lib.Seq.{length-take-le, set-getD}
+use borrow.Author.Tests.{lt-ltb, le-ltb}
+use Rattle.calendar.specs.Limits.{lastInstant}
+use Rattle.calendar.specs.declared.Instant.{Instant}
+use Rattle.layout.specs.declared.Mark.the-variants.{TI}
+use Rattle.layout.specs.declared.Call.{Call}
+use Rattle.lock.specs.Locks.{bit, waiting}
+use Rattle.lock.proofs.Bools.{and-both, byBool}
+use Rattle.task.specs.State.{noTask, wanted}
+use Rattle.task.specs.Turns.{unmarked, triggerTurn}
+use Rattle.task.specs.declared.Task.{Task}
+use Rattle.task.specs.declared.Turn.{Turn}
+use Rattle.task.proofs.Waits.{NoNewWait}
+use Rattle.machine.specs.Sets.{setOf, mark, eachSet, noSets}
+use Rattle.machine.specs.State.{mostTasks, taskAt, enabledAt, withState, begunAt}
+use Rattle.machine.specs.Work.{onlyEnabled, turns, everyTurn}
+use Rattle.machine.specs.Running.{runner, runningOf}
+use Rattle.machine.specs.Serving.{nextServed}
+use Rattle.machine.specs.Test.{valid}
+use Rattle.machine.specs.Refusals.{refusalBy, stateRefusal}
+use Rattle.machine.specs.Calls.{trigger}
+use Rattle.machine.specs.Step.{refuse, finish, orRefuse}
+use Rattle.machine.specs.declared.State.{State}
+use Rattle.machine.specs.declared.Stepped.{Stepped}
+use Rattle.machine.proofs.Below.{all-at, all-from, mostUrgent-none}
+use Rattle.machine.proofs.Facts.{TaskOk, task-test, task-untest, nobody-untest}
+use Rattle.machine.proofs.Granting.{could-locks}
+use Rattle.machine.proofs.Passed.{parts, tested}
+use Rattle.machine.proofs.Works.{turn-at}
+use Rattle.machine.proofs.SetLaws.{members-each, each-same, setOf-lt}
+use Rattle.survey.proofs.TestLaws.{wait-of}
+use Rattle.survey.specs.Looks.{putIf, putMarks, waitsOk}
+use Rattle.serving.specs.Ends.{served, workHere, servedOf, answerOf}
+use Rattle.machine.specs.declared.Sets.{Sets}
+use Rattle.serving.proofs.TurnCases.{sound}
+use Rattle.machine.specs.declared.Running.{Running}
+use Rattle.machine.specs.declared.Running.the-variants.{Idle}
+use Rattle.serving.proofs.ServeLaws.{served-idle}
+use Rattle.serving.proofs.WaitLaws.{servable-idle}
+
+-- ---- a set with one more place
+
+set-more : (bs : List Bool) (b : Bool) → setOf (bs ++ (b ∷ [])) ≡ bit b * 2 ^ length bs + setOf bs
+unfolding setOf
+set-more [] true = refl
+set-more [] false = refl
+set-more (x ∷ bs) true = rw (pow-suc 2 (length bs), set-more bs true) (omega arith)
+set-more (x ∷ bs) false = rw (set-more bs false) (omega arith)
+
+put-more : (bs : List Bool) (b : Bool) → putIf (length bs) b (setOf bs) ≡ setOf (bs ++ (b ∷ []))
+put-more bs true = rw set-more (ap (bitOr (setOf bs)) (sym (one-mul (2 ^ length bs))) ∙ or-shifted-r 1 (length bs) (setOf bs) (setOf-lt bs))
+put-more bs false = rw set-more (omega arith)
+
+-- ---- one more turn
+
+module _ (f : Task → Turn) where
+  -- The tasks, with the turns of the first i made.
+  unfoldable pub tasksAfter : ℕ → List Task → List Task
+  tasksAfter i ts = map (λ u. u .task) (turns i f ts) ++ drop i ts
+
+  -- The set of those of the first i whose turns say so.
+  unfoldable pub setAfter : (Turn → Bool) → ℕ → List Task → ℕ
+  setAfter g i ts = setOf (map g (turns i f ts))
+
+  -- The tasks whose turns are to come.
+  after-later : (i j : ℕ) (ts : List Task) → i ≤ j → taskAt (tasksAfter i ts) j ≡ taskAt ts j
+  unfolding tasksAfter
+  after-later zero j ts h = refl
+  after-later (suc i) j [] h = refl
+  after-later (suc i) zero (t ∷ ts) h = absurd (not-suc-le-zero h)
+  after-later (suc i) (suc j) (t ∷ ts) h = after-later i j ts (omega arith)
+
+  after-more : (i : ℕ) (ts : List Task) → i < length ts → set (tasksAfter i ts) i (f (taskAt ts i) .task) ≡ tasksAfter (suc i) ts
+  unfolding tasksAfter
+  after-more i [] h = absurd (not-suc-le-zero h)
+  after-more zero (t ∷ ts) h = refl
+  after-more (suc i) (t ∷ ts) h = ap (λ l. f t .task ∷ l) (after-more i ts (omega arith))
+
+  bits-more : (g : Turn → Bool) (i : ℕ) (ts : List Task) → i < length ts → map g (turns (suc i) f ts) ≡ map g (turns i f ts) ++ (g (f (taskAt ts i)) ∷ [])
+  bits-more g i [] h = absurd (not-suc-le-zero h)
+  bits-more g zero (t ∷ ts) h = refl
+  bits-more g (suc i) (t ∷ ts) h = ap (λ l. g (f t) ∷ l) (bits-more g i ts (omega arith))
+
+  bits-long : (g : Turn → Bool) (i : ℕ) (ts : List Task) → i < length ts → length (map g (turns i f ts)) ≡ i
+  bits-long g i ts h = length-map (turns i f ts) g ∙ length-map (take i ts) f ∙ length-take-le i ts (omega arith)
+
+  set-after-more : (g : Turn → Bool) (i : ℕ) (ts : List Task) → i < length ts → putIf i (g (f (taskAt ts i))) (setAfter g i ts) ≡ setAfter g (suc i) ts
+  unfolding setAfter
+  set-after-more g i ts h =
+      ap (λ (x : ℕ). putIf x (g (f (taskAt ts i))) (setOf (map g (turns i f ts)))) (sym (bits-long g i ts h))
+      ∙ put-more (map g (turns i f ts)) (g (f (taskAt ts i)))
+      ∙ ap setOf (sym (bits-more g i ts h))
+
+  abbrev pub setsAfter : ℕ → List Task → Sets
+  setsAfter i ts = eachSet (λ x. setAfter (λ u. mark x (u .marks)) i ts)
+
+  sets-after-more : (i : ℕ) (ts : List Task) → i < length ts → putMarks i (f (taskAt ts i) .marks) (setsAfter i ts) ≡ setsAfter (suc i) ts
+  sets-after-more i ts h =
+      each-same _ _
+      (λ x. ap (putIf i (mark x (f (taskAt ts i) .marks))) (members-each x (λ y. setAfter (λ u. mark y (u .marks)) i ts))
+      ∙ set-after-more (λ u. mark x (u .marks)) i ts h)
+
+-- The turns f of the first i tasks of the kernel k have made the kernel `next` and the sets s.
+pub record Made (f : Task → Turn) (k : State) (i : ℕ) (next : State) (s : Sets) : Type 0 where
+  pub state : next ≡ withState (tasksAfter f i (k .tasks)) (k .locks) (k .enabled) k
+  pub sets : s ≡ setsAfter f i (k .tasks)
+
+module _ (f : Task → Turn) (k : State) where
+  pub made-none : Made f k 0 k noSets
+  unfolding tasksAfter setAfter setOf
+  made-none = record { state = refl; sets = refl }
+
+  pub made-all : {i : ℕ} {next : State} {s : Sets} (n : Instant) → i ≡ k .counts .tasks → Made f k i next s
+      → (next ≡ withState (everyTurn k n f .tasks) (k .locks) (k .enabled) k) × (s ≡ everyTurn k n f .sets)
+  unfolding tasksAfter setAfter everyTurn
+  made-all n e h =
+      (h .state ∙ ap (λ (x : ℕ). withState (tasksAfter f x (k .tasks)) (k .locks) (k .enabled) k) e, h .sets ∙ ap (λ (x : ℕ). setsAfter f x (k .tasks)) e)
+
+  module _ (i : ℕ) (l : i < length (k .tasks)) {next : State} {s : Sets} (h : Made f k i next s) where
+    pub task-now : taskAt (next .tasks) i ≡ taskAt (k .tasks) i
+    task-now = ap (λ (q : State). taskAt (q .tasks) i) (h .state) ∙ after-later f i i (k .tasks) (omega arith)
+
+    made-turn : (u : Turn) → u ≡ f (taskAt (next .tasks) i)
+        → Made f k (i + 1) (withState (set (next .tasks) i (u .task)) (next .locks) (next .enabled) next) (putMarks i (u .marks) s)
+    made-turn u e =
+        let v : u ≡ f (taskAt (k .tasks) i) = e ∙ ap f task-now in
+        rw (add-one, h .state, h .sets, v)
+        (record {
+          state = rw (after-more f i (k .tasks) l);
+          sets = sets-after-more f i (k .tasks) l;
+        })
+
+    module _ {next′ : State} {s′ : Sets} where
+      -- Task i has its turn,
+      pub made-more : (u : Turn) → u ≡ f (taskAt (next .tasks) i)
+          → next′ ≡ withState (set (next .tasks) i (u .task)) (next .locks) (next .enabled) next → s′ ≡ putMarks i (u .marks) s
+          → Made f k (i + 1) next′ s′
+      made-more u e a b = rw (a, b) (made-turn u e)
+
+      -- or is passed over, if it would change nothing.
+      pub made-still : f (taskAt (next .tasks) i) ≡ unmarked (taskAt (next .tasks) i) → next′ ≡ next → s′ ≡ s → Made f k (i + 1) next′ s′
+      made-still e a b =
+          let q = made-turn (unmarked (taskAt (next .tasks) i)) (sym e) in
+          record {
+            state = a ∙ ap (λ (ts : List Task). withState ts (next .locks) (next .enabled) next) (sym (set-getD (next .tasks) i noTask)) ∙ q .state;
+            sets = b ∙ q .sets;
+          }
+
+-- ---- what they leave of a kernel that passes the test
+
+-- The kernel in which every task has had its turn, before the instant moves to n.
+abbrev pub everyDone : State → Instant → (Task → Turn) → State
+everyDone k n f = withState (everyTurn k n f .tasks) (k .locks) (k .enabled) k
+
+pub every-finish : (k : State) (f : Task → Turn) {next : State} {s : Sets}
+    → next ≡ everyDone k (k .now) f → s ≡ everyTurn k (k .now) f .sets → finish next (workHere next s) ≡ finish k (everyTurn k (k .now) f)
+unfolding finish everyTurn
+every-finish k f a b = rw (a, b)
+
+module _ (day : ℕ) (k : State) (v : valid day k ≡ true) where
+  -- Turns that keep the limits of a task keep the limits of the waits.
+  pub every-waits : length (k .tasks) ≡ mostTasks → (n : Instant) (f : Task → Turn)
+      → ((t : Task) → TaskOk day (k .counts) t → TaskOk day (k .counts) (f t .task))
+      → {next : State} → next ≡ everyDone k n f → waitsOk next ≡ true
+  unfolding waitsOk everyTurn
+  every-waits long n f keeps a =
+      let room : k .counts .tasks ≤ length (k .tasks) = omega (arith, long, tested day k v .fits .tasks) in
+      rw a
+      (and-both (sound day k v .counts)
+      (all-from (k .counts .tasks) _
+      (λ i l. rw (turn-at (k .counts .tasks) f (k .tasks) room i l)
+      (wait-of day (k .counts) _ (task-test day (k .counts) _ (keeps (taskAt (k .tasks) i) (task-untest day (k .counts) (taskAt (k .tasks) i) (all-at (k .counts .tasks) _ (sound day k v .tasks) i l))))))))
+
+-- ---- turns that begin no wait
+
+-- They leave nobody to serve.
+pub every-idle : (day : ℕ) (k : State) → valid day k ≡ true → length (k .tasks) ≡ mostTasks → (n : Instant) (f : Task → Turn)
+    → ((t : Task) → NoNewWait t (f t .task)) → nextServed (k .counts .tasks) (served (everyDone k n f) 0) ≡ Idle
+unfolding everyTurn
+every-idle day k v long n f new =
+    let c = k .counts .tasks in
+    let ts = everyTurn k n f .tasks in
+    let room : c ≤ length (k .tasks) = omega (arith, long, tested day k v .fits .tasks) in
+    mostUrgent-none c _ _
+    (λ i l. byBool (waiting (taskAt ts i .wait))
+    (λ w.
+    let t = taskAt (k .tasks) i in
+    let e : taskAt ts i ≡ f t .task = turn-at c f (k .tasks) room i l in
+    let s = new t (ap (λ (u : Task). waiting (u .wait)) (sym e) ∙ w) in
+    ap (λ (b : Bool). waiting (taskAt ts i .wait) && b)
+    (could-locks c ts (k .locks) (taskAt ts i .current) (taskAt ts i .wait) (wanted (taskAt ts i)) c (k .tasks) (t .current))
+    ∙ rw (e, s .0, s .1, s .2) (nobody-untest k (parts day k v .stuck) i l))
+    (servable-idle c ts (k .locks) i))
+
+-- The call ends at instant n where nobody is to be served once every task has had its turn.
+pub every-unserved : (k : State) (n : Instant) (f : Task → Turn) {next : State} {s : Sets} {r : Running}
+    → next ≡ everyDone k n f → s ≡ everyTurn k n f .sets
+    → nextServed (k .counts .tasks) (served (everyDone k n f) 0) ≡ Idle → r ≡ runningOf (k .counts .tasks) (everyTurn k n f .tasks)
+    → record { state = begunAt n next; answer = answerOf 0 r s } ≡ finish k (everyTurn k n f)
+unfolding finish servedOf everyTurn
+every-unserved k n f a b h e = rw (a, b, e, served-idle (everyDone k n f) (everyTurn k n f .sets .granted) h)
+
+-- ---- a tick at the last instant is refused
+
+pub tick-early : (k : State) (c : Call) (s : Stepped) → k .now .0 < lastInstant → s ≡ orRefuse k (stateRefusal TI k c) s
+unfolding refusalBy
+tick-early k c s l = rw (lt-ltb _ _ l)
+
+pub tick-late : (k : State) (c : Call) (s : Stepped) → lastInstant ≤ k .now .0 → refuse k 15 (runner k) ≡ orRefuse k (stateRefusal TI k c) s
+unfolding refusalBy
+tick-late k c s l = rw (le-ltb _ _ l)
+
+-- ---- a disabled interrupt changes nothing
+
+module _ (day : ℕ) (k : State) (i : ℕ) where
+  pub trigger-on : enabledAt k i ≡ true → trigger day k i ≡ everyTurn k (k .now) (triggerTurn day (k .clock) (k .now) i)
+  unfolding trigger
+  trigger-on e = rw e
+
+  pub trigger-off : enabledAt k i ≡ false → trigger day k i ≡ onlyEnabled k (k .enabled)
+  unfolding trigger
+  trigger-off e = rw e

@@ -1,0 +1,61 @@
+-- An enabled interrupt gives each task its turn; another changes nothing.
+use mathlib.Core.Path.{sym, _∙_, ap}
+use native.Mathlib.Omega.{arith}
+use Rattle.calendar.specs.Limits.{day}
+use Rattle.task.specs.Turns.{triggerTurn}
+use Rattle.machine.specs.Invariants.{IsDay}
+use Rattle.machine.specs.Step.{finish}
+use Rattle.machine.proofs.Passed.{tested}
+use Rattle.machine.proofs.Turns.{good-trigger}
+use Rattle.survey.proofs.Owned.{tasks-long}
+use Rattle.serving.proofs.TurnCases.{sound}
+use Rattle.ticks.proofs.EveryTask.{every-finish, every-waits, trigger-on, trigger-off}
+use Rattle.ticks.proofs.triggered.Statement.{statement}
+use Rattle.ticks.proofs.triggered.Tie as tie
+
+isDay : IsDay day
+isDay = record { some = omega arith; room = omega arith }
+
+element-copy-out-if1 : tie.Need-element-copy-out-if1
+element-copy-out-if1 c = omega (arith, c .pre .1, tested day (c .args .t1) (c .pre .0) .fits .interrupts)
+
+trigger-all-requires : tie.Need-trigger-all-requires
+trigger-all-requires c κs =
+    let s = c .before .before in
+    (tested day (s .args .t1) (s .pre .0) .fits .tasks, sound day (s .args .t1) (s .pre .0) .now)
+
+finished-requires : tie.Need-finished-requires
+finished-requires c κs =
+    let s = c .before .before .before .before in
+    let k = s .args .t1 in
+    every-waits day k (s .pre .0) (tasks-long k (s .good .0 .0, s .good .0 .1 .1)) (k .now) (triggerTurn day (k .clock) (k .now) (s .args .i))
+    (λ t h. good-trigger day (k .counts) isDay (k .clock) (k .now) (sound day k (s .pre .0) .now) (s .args .i) t h .ok)
+    (c .before .trigger-all .ensures .0)
+
+returns : tie.Need-returns
+returns c =
+    let s = c .before .before .before .before .before in
+    let k = s .args .t1 in
+    let w = c .before .before .trigger-all .ensures in
+    c .finished .ensures
+    ∙ every-finish k (triggerTurn day (k .clock) (k .now) (s .args .i)) (w .0) (w .1)
+    ∙ ap (finish k) (sym (trigger-on day k (s .args .i) (c .before .before .before .if1 .taken)))
+
+done-requires : tie.Need-done-requires
+done-requires c κs = sound day (c .before .before .args .t1) (c .before .before .pre .0) .waits
+
+returns-2 : tie.Need-returns-2
+returns-2 c =
+    let s = c .before .before .before in
+    c .done .ensures ∙ ap (finish (s .args .t1)) (sym (trigger-off day (s .args .t1) (s .args .i) (c .before .if1 .left)))
+
+pub triggered-spec : {M : Type 1} → statement M
+triggered-spec =
+    tie.close
+    (tie.spec
+    element-copy-out-if1
+    trigger-all-requires
+    finished-requires
+    returns
+    done-requires
+    returns-2)

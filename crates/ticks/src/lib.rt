@@ -1,0 +1,154 @@
+// The calls that aren't about one task: TI and TG give every task its turn, EI and XI none.
+ghost use mathlib.Core.Path.{_≡_};
+ghost use mathlib.Core.Bool.{true};
+ghost use Prim.Native.Nat.{_≤_, _<_};
+ghost use Rattle.calendar.specs.Limits.{day, lastInstant};
+ghost use Rattle.task.specs.Turns.{triggerTurn};
+ghost use Rattle.machine.specs.State.{mostTasks, withState};
+ghost use Rattle.machine.specs.Running.{runner};
+ghost use Rattle.machine.specs.Test.{valid};
+ghost use Rattle.machine.specs.Refusals.{stateRefusal};
+ghost use Rattle.machine.specs.Work.{everyTurn};
+ghost use Rattle.machine.specs.Calls.{tick, trigger, enable, interruptBy};
+ghost use Rattle.machine.specs.Step.{finish, orRefuse};
+ghost use Rattle.survey.specs.Looks.{waitsOk};
+ghost use Rattle.ticks.specs.Stirring.{mayCome};
+ghost use Rattle.layout.specs.declared.Mark.the-variants.{TI};
+ghost use Rattle.layout.specs.declared.Call.{Call};
+use calendar::Duration;
+use calendar::Instant;
+use calendar::LAST_INSTANT;
+use layout::Head;
+use layout::Mark;
+use machine::Running;
+use machine::Sets;
+use machine::State;
+use machine::Stepped;
+use serving::ends::answer_of;
+use serving::ends::answered;
+use serving::ends::begun_at;
+use serving::ends::done;
+use serving::ends::finished;
+use serving::ends::no_sets;
+use survey::scan::no_lead;
+use survey::sets::put_marks;
+use task::Hold;
+
+// A kernel at work, and the sets so far.
+pub struct Working {
+    pub state: State,
+    pub sets: Sets,
+}
+
+// Each declared task's turn at a trigger of the enabled interrupt.
+fn trigger_all(mut k: State, interrupt: u8) -> Working
+    requires { ⌜ k .counts .tasks ≤ mostTasks ⌝ }
+    requires { ⌜ k .now .0 ≤ lastInstant ⌝ }
+    ensures { λ r. ⌜ (r .state ≡ withState (everyTurn k (k .now) (triggerTurn day (k .clock) (k .now) interrupt) .tasks) (k .locks) (k .enabled) k) × (r .sets ≡ everyTurn k (k .now) (triggerTurn day (k .clock) (k .now) interrupt) .sets) ⌝ }
+{
+    let counts = k.counts;
+    let most = counts.tasks as usize;
+    let n = k.now;
+    let clock = k.clock;
+    let mut s = no_sets();
+    for i in 0..most {
+        let t = k.tasks[i];
+        if t.listens_to(interrupt) {
+            let u = t.trigger(clock, n, interrupt);
+            let after = u.task;
+            k.tasks[i] = after;
+            s = put_marks(i, u.marks, s);
+        }
+    }
+    Working { state: k, sets: s }
+}
+
+// Whether something may come at n to a task that is held so, with this next due. It comes to no other.
+fn may_come(hold: Hold, next: Instant, n: Instant) -> bool
+    ensures { λ r. ⌜ r ≡ mayCome hold next n ⌝ }
+{
+    match hold {
+        Hold::Unheld => next.0 == n.0,
+        Hold::Suspended => next.0 == n.0,
+        Hold::Delayed(_) => true,
+    }
+}
+
+// Each declared task's turn at a tick: those that something may come to; the others stay as they are. No turn makes a
+// task less urgent, so the task that ran or one that had its turn runs. No turn begins a wait, so nobody is served.
+pub fn ticked(mut k: State, r: Running) -> Stepped
+    requires { ⌜ valid day k ≡ true ⌝ }
+    requires { ⌜ r ≡ runner k ⌝ }
+    ensures { λ s. ⌜ ((c : Call) → s ≡ orRefuse k (stateRefusal TI k c) (finish k (tick k))) ⌝ }
+{
+    let now = k.now;
+    if LAST_INSTANT <= now.0 {
+        return answered(k, 15, r);
+    }
+    let n = now.plus(Duration(1));
+    let counts = k.counts;
+    let most = counts.tasks as usize;
+    let mut s = no_sets();
+    let mut lead = no_lead();
+    if let Running::Runs(j) = r {
+        let at = j as usize;
+        lead = lead.against_if(true, k.tasks[at].current, at);
+    }
+    for i in 0..most {
+        let t = k.tasks[i];
+        let hold = t.hold;
+        let schedule = t.schedule;
+        let alarm = schedule.alarm;
+        if may_come(hold, alarm.next, n) {
+            let whole = k.tasks[i];
+            let u = whole.tick(n);
+            let after = u.task;
+            k.tasks[i] = after;
+            s = put_marks(i, u.marks, s);
+            lead = lead.against_if(after.is_runnable(), after.current, i);
+        }
+    }
+    let runner = lead.who();
+    Stepped {
+        state: begun_at(k, n),
+        answer: answer_of(0, runner, s),
+    }
+}
+
+fn triggered(k: State, i: u8) -> Stepped
+    requires { ⌜ valid day k ≡ true ⌝ }
+    requires { ⌜ i < k .counts .interrupts ⌝ }
+    ensures { λ s. ⌜ s ≡ finish k (trigger day k i) ⌝ }
+{
+    let at = i as usize;
+    if k.enabled[at] {
+        let w = trigger_all(k, i);
+        let s = w.sets;
+        return finished(w.state, s);
+    }
+    done(k)
+}
+
+// ENABLE and DISABLE.
+fn enabled_as(mut k: State, i: usize, b: bool) -> Stepped
+    requires { ⌜ waitsOk k ≡ true ⌝ }
+    requires { ⌜ i < k .counts .interrupts ⌝ }
+    ensures { λ s. ⌜ s ≡ finish k (enable k i b) ⌝ }
+{
+    k.enabled[i] = b;
+    done(k)
+}
+
+// TRIGGER, ENABLE and DISABLE.
+pub fn interrupted(k: State, h: Head) -> Stepped
+    requires { ⌜ valid day k ≡ true ⌝ }
+    requires { ⌜ h .number < k .counts .interrupts ⌝ }
+    ensures { λ s. ⌜ s ≡ finish k (interruptBy day (h .mark) k (h .number)) ⌝ }
+{
+    let mark = h.mark;
+    match mark {
+        Mark::TG => triggered(k, h.number),
+        Mark::EI => enabled_as(k, h.number as usize, true),
+        _ => enabled_as(k, h.number as usize, false),
+    }
+}
