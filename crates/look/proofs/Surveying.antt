@@ -41,13 +41,13 @@ module _ (now : Instant) (m : Moment) {w : Moment} (b : ℕ) (e : momentOf b ≡
   sooner-same q f = rw (q, f, e)
 
 -- A task at ease is held against the lead if it lives, and one that isn't leaves the lead as it was.
-module _ (ts : List Task) (i : ℕ) {lead after : Lead} (h : Led i (canRun ts) ts lead) where
+module _ (ts : List Task) (i : ℕ) {lead : Lead} (h : Led i (canRun ts) ts lead) where
   pub led-eased : {r : Lead} → atEase (taskAt ts i .wait) (taskAt ts i .hold) ≡ true
-      → Weighed lead (taskAt ts i .alive) (mostTasks * taskAt ts i .current + i) i r → after ≡ r → Led (i + 1) (canRun ts) ts after
-  led-eased e q z = rw z (led-more (canRun ts) ts i (eased-runs (taskAt ts i) e) h q)
+      → Weighed lead (taskAt ts i .alive) (mostTasks * taskAt ts i .current + i) i r → Led (i + 1) (canRun ts) ts r
+  led-eased e q = led-more (canRun ts) ts i (eased-runs (taskAt ts i) e) h q
 
-  pub led-busy : atEase (taskAt ts i .wait) (taskAt ts i .hold) ≡ false → after ≡ lead → Led (i + 1) (canRun ts) ts after
-  led-busy e z = rw z (led-passed (canRun ts) ts i (busy-rests (taskAt ts i) e) h)
+  pub led-busy : atEase (taskAt ts i .wait) (taskAt ts i .hold) ≡ false → Led (i + 1) (canRun ts) ts lead
+  led-busy e = led-passed (canRun ts) ts i (busy-rests (taskAt ts i) e) h
 
 module _ (day : ℕ) (k : State) where
   pub looked-none : Looked day k 0 0 noLead

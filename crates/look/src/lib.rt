@@ -33,6 +33,7 @@ fn unfit() -> Survey
 }
 
 // Each part of a turn copies the task anew: of a copy that is only read, the machine loads just the fields in use.
+// A task that waits or is held can't run, so it is not held against the lead.
 pub fn survey(k: State) -> Survey
     ensures { λ r. ⌜ r ≡ surveyed day k ⌝ }
 {
@@ -75,16 +76,16 @@ pub fn survey(k: State) -> Survey
         let t = k.tasks[i];
         let wait = t.wait;
         let hold = t.hold;
-        if is_at_ease(wait, hold) {
-            lead = lead.against_if(k.tasks[i].alive, current, i);
-        } else {
+        if !is_at_ease(wait, hold) {
             let t = k.tasks[i];
             if !is_busy_ok(counts, locks, t) {
                 return unfit();
             }
             let hold = t.hold;
             soonest = sooner_end(soonest, now, hold);
+            continue;
         }
+        lead = lead.against_if(k.tasks[i].alive, current, i);
     }
     Survey {
         ok: true,

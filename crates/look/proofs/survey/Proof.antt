@@ -13,7 +13,7 @@ use Rattle.task.specs.declared.Task.{Task}
 use Rattle.machine.specs.State.{mostTasks, taskAt}
 use Rattle.machine.specs.Test.{isPriority, scheduleOk, allBelow, countsOk, valid}
 use Rattle.machine.specs.declared.State.{State}
-use Rattle.survey.specs.Looks.{unfit, surveyed}
+use Rattle.survey.specs.Looks.{atEase, unfit, surveyed}
 use Rattle.survey.specs.Next.{momentOf}
 use Rattle.survey.proofs.Owned.{Owned}
 use Rattle.survey.proofs.LeadLaws.{Led, canRun}
@@ -106,40 +106,27 @@ start c =
     ⊎-elim (λ w. start-kept (t .alive) (t .kept) (sym (w .2 .ensures) ∙ not-false _ (w .3 .left)))
     (λ w. start-none (t .alive) (t .kept) (sym (c .before .is-back .ensures) ∙ w .left)) (c .if5 .came)
 
--- Where all of the task has been looked at.
-abbrev T : Type 0
-T = tie.Joined7 Inv-loop μ-loop
+-- Where a task that isn't at ease has been looked at,
+abbrev B : Type 0
+B = tie.After-sooner-end Inv-loop μ-loop
 
-abbrev started : T → U
-started c = c .before .before .before
+abbrev busy : B → U
+busy c = c .before .before .before .before .before .before .before
 
-fits : (c : T) → let i = turn (started c) in fitAt day (state (passed i)) (i .before .loop .i) ≡ true
-fits c =
-    let u = started c in
-    let p = scheduled u in
-    let i = turn u in
-    let k = state (passed i) in
-    ⊎-elim (λ w. fit-eased day (k .counts) (k .tasks) (k .locks) (one i) (priorities p) (schedule p) (start u) (sym (c .before .is-at-ease .ensures) ∙ w .0 .taken))
-    (λ w. fit-busy day (k .counts) (k .tasks) (k .locks) (one i) (priorities p) (schedule p) (start u) (sym (w .2 .ensures (k .tasks)) ∙ not-false _ (w .3 .left)))
-    (c .if7 .came)
+uneased : (c : B) → let t = one (turn (busy c)) in atEase (t .wait) (t .hold) ≡ false
+uneased c =
+    let b = c .before .before .before .before in
+    sym (b .before .is-at-ease .ensures) ∙ not-true _ (b .if7 .taken)
 
-coming : (c : T) → let i = turn (started c) in let now = state (passed i) .now in
-    momentOf (c .if7 .soonest) ≡ sooner now (delayEnd (one i .hold)) (sooner now (nextStart (one i .schedule .alarm)) (momentOf (i .before .loop .soonest)))
-coming c =
-    let p = scheduled (started c) in
-    let i = turn (started c) in
-    let t = one i in
-    ⊎-elim (λ w. sooner-same (state (passed i) .now) (delayEnd (t .hold)) (p .if3 .soonest) (starting p) (w .2) (eased (t .wait) (t .hold) (sym (c .before .is-at-ease .ensures) ∙ w .0 .taken) .ends))
-    (λ w. sooner-more (state (passed i) .now) (delayEnd (t .hold)) (p .if3 .soonest) (starting p) (w .5) (w .4 .ensures))
-    (c .if7 .came)
+-- and one that is.
+abbrev E : Type 0
+E = tie.After-against-if Inv-loop μ-loop
 
-leading : (c : T) → let i = turn (started c) in let ts = state (passed i) .tasks in Led (i .before .loop .i + 1) (canRun ts) ts (c .if7 .lead)
-leading c =
-    let i = turn (started c) in
-    let l = i .before .loop in
-    let ts = state (passed i) .tasks in
-    ⊎-elim (λ w. led-eased ts (l .i) (l .inv .leads) (sym (c .before .is-at-ease .ensures) ∙ w .0 .taken) (w .1 .ensures) (w .3))
-    (λ w. led-busy ts (l .i) (l .inv .leads) (sym (c .before .is-at-ease .ensures) ∙ w .0 .left) (w .6)) (c .if7 .came)
+abbrev calm : E → U
+calm c = c .before .before .before .before
+
+at-ease : (c : E) → let t = one (turn (calm c)) in atEase (t .wait) (t .hold) ≡ true
+at-ease c = sym (c .before .before .is-at-ease .ensures) ∙ not-false _ (c .before .if7 .left)
 
 -- ---- the needs
 
@@ -300,25 +287,54 @@ returns-5 c =
     let k = state (passed i) in
     c .unfit5 .ensures
     ∙ ends i (odd-busy day (k .counts) (k .tasks) (k .locks) (one i)
-    (sym (e .is-at-ease .ensures) ∙ b .before .before .if7 .left)
+    (sym (e .is-at-ease .ensures) ∙ not-true _ (b .before .before .if7 .taken))
     (sym (b .is-busy-ok .ensures (k .tasks)) ∙ not-true _ (c .before .if8 .taken)))
 
 sooner-end-requires : tie.Need-sooner-end-requires Inv-loop μ-loop
 sooner-end-requires c κs = search needs
 
 add-i : tie.Need-add-i Inv-loop μ-loop
-add-i c = omega (arith, room (turn (started c)))
+add-i c = omega (arith, room (turn (busy c)))
 
 loop-less : tie.Need-loop-less Inv-loop μ-loop
 loop-less c =
-    let i = turn (started c) in
+    let i = turn (busy c) in
     omega (arith, i .loop-test .taken)
 
 loop-again : tie.Need-loop-again Inv-loop μ-loop
 loop-again c =
-    let i = turn (started c) in
-    looked-next day (state (passed i)) (i .before .loop .inv) (i .loop-test .taken)
-    (c .if7 .soonest) (fits c) (coming c) (leading c)
+    let u = busy c in
+    let p = scheduled u in
+    let i = turn u in
+    let l = i .before .loop in
+    let k = state (passed i) in
+    let t = one i in
+    let tested = c .before .before in
+    looked-next day k (l .inv) (i .loop-test .taken) (c .sooner-end .result)
+    (fit-busy day (k .counts) (k .tasks) (k .locks) t (priorities p) (schedule p) (start u) (sym (tested .is-busy-ok .ensures (k .tasks)) ∙ not-false _ (c .before .if8 .left)))
+    (sooner-more (k .now) (delayEnd (t .hold)) (p .if3 .soonest) (starting p) {c = c .sooner-end .result} refl (c .sooner-end .ensures))
+    (led-busy (k .tasks) (l .i) (l .inv .leads) (uneased c))
+
+add-i-2 : tie.Need-add-i-2 Inv-loop μ-loop
+add-i-2 c = omega (arith, room (turn (calm c)))
+
+loop-less-2 : tie.Need-loop-less-2 Inv-loop μ-loop
+loop-less-2 c =
+    let i = turn (calm c) in
+    omega (arith, i .loop-test .taken)
+
+loop-again-2 : tie.Need-loop-again-2 Inv-loop μ-loop
+loop-again-2 c =
+    let u = calm c in
+    let p = scheduled u in
+    let i = turn u in
+    let l = i .before .loop in
+    let k = state (passed i) in
+    let t = one i in
+    looked-next day k (l .inv) (i .loop-test .taken) (p .if3 .soonest)
+    (fit-eased day (k .counts) (k .tasks) (k .locks) t (priorities p) (schedule p) (start u) (at-ease c))
+    (sooner-same (k .now) (delayEnd (t .hold)) (p .if3 .soonest) (starting p) refl (eased (t .wait) (t .hold) (at-ease c) .ends))
+    (led-eased (k .tasks) (l .i) (l .inv .leads) (at-ease c) (c .against-if .ensures))
 
 moment-of-requires : tie.Need-moment-of-requires Inv-loop μ-loop
 moment-of-requires c κs = search needs
@@ -378,9 +394,6 @@ survey-spec =
     mul-t-5
     element-copy-out-t-5
     is-at-ease-requires
-    mul-against-if
-    element-copy-out-against-if
-    against-if-requires
     mul-t-6
     element-copy-out-t-6
     is-busy-ok-requires
@@ -390,6 +403,12 @@ survey-spec =
     add-i
     loop-less
     loop-again
+    mul-against-if
+    element-copy-out-against-if
+    against-if-requires
+    add-i-2
+    loop-less-2
+    loop-again-2
     moment-of-requires
     who-requires
     returns-6)
