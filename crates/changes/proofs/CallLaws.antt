@@ -1,7 +1,7 @@
 -- What a call or declaration that no formal ground refuses has passed, and what it comes to.
 use mathlib.Core.Path.{_≡_, refl, sym, ap, _∙_}
-use mathlib.Core.Bool.{Bool, true, false, _&&_}
-use mathlib.Core.List.{List, []}
+use mathlib.Core.Bool.{true, false, _&&_}
+use mathlib.Core.List.{List}
 use Prim.Native.Nat.{ℕ, zero, suc, _≤_, _<_, _%_}
 use native.Mathlib.Omega.{arith}
 use lib.Dec.{leb, ltb}
@@ -18,7 +18,7 @@ use Rattle.record.specs.Reading.{callWith}
 use Rattle.record.specs.Refusals.{mostNumbers, mostValue, named, uses, cleanNames, cleanStart, ranged}
 use Rattle.record.specs.declared.Read.the-variants.{Refused, Accepted}
 use Rattle.record.specs.declared.Reading.{Reading}
-use Rattle.lock.specs.Locks.{mostLocks, every}
+use Rattle.lock.specs.Locks.{every}
 use Rattle.lock.specs.declared.Wait.{Wait}
 use Rattle.lock.proofs.Bools.{byBool, contra, both}
 use Rattle.machine.specs.declared.State.{State}
@@ -33,7 +33,7 @@ use Rattle.machine.specs.Test.{valid}
 use Rattle.machine.specs.Sorts.{sortOf, declaring, declares, placeOf, runnerAt}
 use Rattle.machine.specs.Refusals.{listDeclared, declaredBy, formalRefusal, admitted, refusalBy, stateRefusal}
 use Rattle.machine.specs.Calls.{declaration, tick, interruptBy, workBy}
-use Rattle.machine.specs.Step.{refuse, declared, finish, orRefuse, carryOut, settle, stepRead, step}
+use Rattle.machine.specs.Step.{refuse, declared, finish, orRefuse, carryOut, settle, step}
 use Rattle.machine.proofs.Urgency.{Below, runner-below}
 use Rattle.machine.proofs.Passed.{Formal, formal, formal-as}
 use Rattle.machine.proofs.Sorts.{listing, tick-mark, list-mark, list-shape, no-list}

@@ -35,7 +35,7 @@ use Rattle.machine.specs.Step.{finish, settle}
 use Rattle.machine.specs.Test.{waitOk, valid}
 use Rattle.machine.proofs.Urgency.{Below, runner-below}
 use Rattle.machine.proofs.Passed.{unrefused}
-use Rattle.machine.proofs.Sorts.{listing, given-waits}
+use Rattle.machine.proofs.Sorts.{given-waits}
 use Rattle.machine.proofs.WorkPairs.{no-wait-named, no-wait-runner}
 use Rattle.survey.specs.Looks.{putIf, putMarks, waitsOk}
 use Rattle.machine.specs.Sets.{only, mark, noSets, onlyIn}

@@ -1,6 +1,5 @@
 // Declarations: the next place of the kind is filled whole.
 ghost use mathlib.Core.Path.{_≡_};
-ghost use mathlib.Core.Bool.{true};
 ghost use mathlib.Core.List.{List};
 ghost use Prim.Native.Nat.{ℕ, _<_};
 ghost use Rattle.calendar.specs.Limits.{day};

@@ -4,10 +4,9 @@ use mathlib.Core.Bool.{Bool, true, false, _&&_}
 use mathlib.Core.List.{List}
 use Prim.Native.Nat.{ℕ, _+_, _≤_, _<_}
 use native.Mathlib.Omega.{arith}
-use lib.Dec.{ltb, leb}
 use lib.ListN.{length, set, length-set}
 use lib.Seq.{getD-set-same, getD-set-other}
-use borrow.Author.Tests.{ltb-true, lt-ltb, leb-true, le-leb}
+use borrow.Author.Tests.{ltb-true, leb-true, le-leb}
 use Rattle.record.specs.Refusals.{mostValue, uses, cleanNames, cleanStart, ranged, formedAs, timed}
 use Rattle.layout.specs.declared.Form.{Form}
 use Rattle.layout.specs.declared.Form.the-variants.{DeclaredPriority, Preset}
@@ -26,7 +25,7 @@ use Rattle.task.specs.State.{noTask, wanted}
 use Rattle.task.specs.declared.Task.{Task}
 use Rattle.machine.specs.declared.Counts.{Counts}
 use Rattle.machine.specs.declared.State.{State}
-use Rattle.machine.specs.State.{mostTasks, mostSemaphores, mostBolts, mostInterrupts, taskAt, countOf, freshTask, withState, withCounts, withClock}
+use Rattle.machine.specs.State.{taskAt, countOf, freshTask, withState, withCounts, withClock}
 use Rattle.machine.specs.Granting.{available, servable}
 use Rattle.machine.specs.Test.{isPriority, scheduleOk}
 use Rattle.machine.proofs.Granting.{could-alike}

@@ -1,12 +1,12 @@
 -- What each accepted call does, in the few shapes that there are.
 use mathlib.Core.Path.{_≡_, refl, sym, ap, _∙_}
 use mathlib.Core.Bool.{Bool, true, false, not, _&&_, _||_, or-true}
-use mathlib.Core.List.{List, [], _∷_}
+use mathlib.Core.List.{List}
 use Prim.Native.Nat.{ℕ, _^_, _≤_, _<_}
 use native.Mathlib.Omega.{arith}
 use lib.Dec.{ltb, leb}
-use lib.ListN.{length, take, set, length-set}
-use borrow.Author.Tests.{ltb-true, leb-true, eqb-true, not-true}
+use lib.ListN.{length, set, length-set}
+use borrow.Author.Tests.{ltb-true, leb-true, not-true}
 use Rattle.calendar.specs.Limits.{longestDuration, lastInstant, isDuration}
 use Rattle.calendar.specs.Times.{duration, plus}
 use Rattle.calendar.specs.declared.Instant.{Instant}
@@ -19,7 +19,7 @@ use Rattle.layout.proofs.MarksLaws.{is-mark}
 use Rattle.layout.specs.declared.Call.{Call}
 use Rattle.lock.specs.Locks.{waiting, every, taken, grantable, takeAll, giveAll}
 use Rattle.lock.specs.declared.Wait.{Wait}
-use Rattle.lock.specs.declared.Wait.the-variants.{Nothing, Request, Reserve, Enter}
+use Rattle.lock.specs.declared.Wait.the-variants.{Nothing}
 use Rattle.lock.proofs.Bools.{byBool, contra, both, or-then}
 use Rattle.task.specs.State.{unheld, runnable, waitFor}
 use Rattle.task.specs.Turns.{unmarked}

@@ -23,7 +23,7 @@ use Rattle.task.specs.declared.Turn.{Turn}
 use Rattle.machine.specs.declared.Counts.{Counts}
 use Rattle.machine.specs.declared.State.{State}
 use Rattle.machine.specs.declared.Stepped.{Stepped}
-use Rattle.machine.specs.Sets.{Set, setOf, mark, noSets}
+use Rattle.machine.specs.Sets.{setOf, mark, noSets}
 use Rattle.machine.specs.State.{mostTasks, taskAt, begunAt}
 use Rattle.machine.specs.Running.{runner, urgency}
 use Rattle.machine.specs.Granting.{servable}

@@ -6,8 +6,7 @@ use native.Mathlib.Omega.{arith}
 use lib.Dec.{ltb, leb, eqb}
 use borrow.Author.Tests.{ltb-true, lt-ltb, leb-true, le-leb, eqb-true, eq-eqb, ne-eqb}
 use Rattle.calendar.specs.Limits.{longestDuration, lastInstant, mostInstant, isTimeOfDay, isDuration, isPeriod}
-use Rattle.calendar.specs.Times.{duration}
-use Rattle.calendar.specs.Dues.{firstDue, lastAllowed, nextDue}
+use Rattle.calendar.specs.Dues.{lastAllowed, nextDue}
 use Rattle.calendar.specs.declared.Instant.{Instant}
 use Rattle.calendar.specs.declared.End.{End}
 use Rattle.calendar.specs.declared.End.the-variants.{Open, Until, During}
@@ -16,7 +15,6 @@ use Rattle.calendar.specs.declared.Moment.the-variants.{Never, At as Then}
 use Rattle.calendar.proofs.Bounds.{ShortStart, ShortEnd, Within, first-within, last-within, next-within, within-more}
 use Rattle.record.specs.Refusals.{Used, onInterrupt, atTime, afterDuration, start, orZero, cleanStart, ranged, endTimed, firstTimed, startTimed, startFormed}
 use Rattle.layout.specs.declared.Head.{Head}
-use Rattle.layout.specs.declared.Form.the-variants.{Activation}
 use Rattle.lock.proofs.Bools.{byBool, byEq, contra, both, and-both, or-then, then-or, or-right}
 use Rattle.task.specs.Alarms.{pending, listening, planned, comingAt, rearmed, setOff, startOf, alarmOf}
 use Rattle.task.specs.Schedules.{withAlarm, advanced, advance, lastOf, begun, triggered}

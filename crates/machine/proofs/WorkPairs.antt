@@ -1,7 +1,7 @@
 -- The works of a call on two kernels that agree are alike in what is declared.
 use mathlib.Core.Path.{_≡_, refl, sym, ap, _∙_}
 use mathlib.Core.Bool.{Bool, true, false, not, _||_}
-use mathlib.Core.List.{List, [], _++_, map}
+use mathlib.Core.List.{List, _++_, map}
 use Prim.Native.Nat.{ℕ, _<_}
 use native.Mathlib.Omega.{arith}
 use lib.ListN.{length, take, drop, length-map, List·getD-append}
@@ -97,9 +97,6 @@ module _ (k : State) (ts : List Task) (r : Locks) (is : List Bool) (f : Fits (k 
         enabled = b;
         sets = refl;
       }
-
-  none-pair : WorkPair n (onlyLocks k (k .locks) (k .enabled) 0) (onlyLocks k′ r is 0)
-  none-pair = only-pair (k .locks) r (k .enabled) is 0 (h .locks) ints
 
   enabled-pair : (js js′ : List Bool) → Like false mostInterrupts (n .interrupts) js js′ → WorkPair n (onlyEnabled k js) (onlyEnabled k′ js′)
   enabled-pair js js′ b = rw (enabled-alone k js, enabled-alone k′ js′) (only-pair (k .locks) r js js′ 0 (h .locks) b)

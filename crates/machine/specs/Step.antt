@@ -1,5 +1,5 @@
 -- The machine: any kernel value and any bytes to the next kernel and the answer.
-use mathlib.Core.Bool.{true, false, cond}
+use mathlib.Core.Bool.{cond}
 use mathlib.Core.List.{List}
 use Prim.Native.Nat.{ℕ, zero, suc}
 use Rattle.record.specs.Reading.{callWith}

@@ -1,6 +1,5 @@
 // Calls the methods as a program would, and prints their lines. stdout has the lines that document 01 gives.
 ghost use mathlib.Core.Path.{_≡_};
-ghost use mathlib.Core.List.{List, [], _∷_};
 use calendar::End;
 use calendar::Instant;
 use calendar::Moment;

@@ -1,6 +1,6 @@
 -- What passes the first of the formal refusals, and what the state refuses, by the sort of the mark.
 use mathlib.Core.Path.{_≡_, refl}
-use mathlib.Core.Bool.{Bool, true, false, not, _||_, or-true}
+use mathlib.Core.Bool.{false}
 use Prim.Native.Nat.{ℕ, _≤_}
 use lib.Dec.{ltb}
 use Rattle.calendar.specs.Limits.{lastInstant}
@@ -11,10 +11,8 @@ use Rattle.layout.specs.declared.Mark.{Mark}
 use Rattle.layout.specs.declared.Mark.the-variants.{AC, TE, SU, CO, TI}
 use Rattle.record.specs.Refusals.{mostNumbers, named, unless, formed, shape}
 use Rattle.record.proofs.ShapeLaws.{formed-short}
-use Rattle.lock.specs.Locks.{waiting, every, taken}
+use Rattle.lock.specs.Locks.{every, taken}
 use Rattle.lock.specs.declared.Locks.{Locks}
-use Rattle.lock.specs.declared.Wait.{Wait}
-use Rattle.lock.specs.declared.Wait.the-variants.{Nothing, Request, Reserve, Enter}
 use Rattle.task.specs.declared.Task.{Task}
 use Rattle.machine.specs.declared.Running.{Running}
 use Rattle.machine.specs.declared.Sort.{Sort}

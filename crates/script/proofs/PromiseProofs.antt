@@ -16,7 +16,6 @@ use Rattle.lines.proofs.LineLaws.{no-line-longer}
 use Rattle.lock.proofs.Bools.{byBool, contra}
 use Rattle.script.specs.Printed.{shown, silent, printed, lines}
 use Rattle.script.specs.Script.{goingOn, Carried, afterText, carried}
-use Rattle.script.specs.declared.Script.{Script}
 use Rattle.script.specs.Promises.{Carries, ScriptsCarried}
 use Rattle.script.proofs.AnswerLaws.{answer-in-types}
 use Rattle.script.proofs.CarryLaws.{goes-on, carried-none, carried-stop, carried-go}

@@ -1,7 +1,6 @@
 -- One task's turn: what a due, an end, a tick or a call does to it, and which sets have it (document 01, "The step").
-use mathlib.Core.Bool.{Bool, true, false, cond, _&&_}
+use mathlib.Core.Bool.{Bool, true, false, cond}
 use Prim.Native.Nat.{ℕ, zero, suc}
-use lib.Dec.{eqb}
 use Rattle.calendar.specs.Moments.{isAt}
 use Rattle.calendar.specs.declared.Instant.{Instant}
 use Rattle.task.specs.declared.Hold.{Hold}

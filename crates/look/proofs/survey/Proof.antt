@@ -4,7 +4,7 @@ use borrow.Author.Tests.{not-true, not-false}
 use mathlib.Core.Path.{_≡_, refl, sym, _∙_}
 use mathlib.Core.Bool.{true, false, _&&_}
 use mathlib.Core.Logic.{⊎-elim}
-use Prim.Native.Nat.{_+_, _-_, _<_, _≤_}
+use Prim.Native.Nat.{_-_, _<_, _≤_}
 use native.Mathlib.Omega.{arith}
 use Rattle.calendar.specs.Limits.{day}
 use Rattle.calendar.specs.Moments.{sooner}
@@ -16,7 +16,6 @@ use Rattle.machine.specs.declared.State.{State}
 use Rattle.survey.specs.Looks.{atEase, unfit, surveyed}
 use Rattle.survey.specs.Next.{momentOf}
 use Rattle.survey.proofs.Owned.{Owned}
-use Rattle.survey.proofs.LeadLaws.{Led, canRun}
 use Rattle.survey.proofs.TaskFit.{plan-none, no-start, Starts, start-none, start-kept, eased, odd-priority, odd-schedule, odd-kept, odd-busy, fit-eased, fit-busy}
 use Rattle.survey.proofs.TestLaws.{fitAt, upto-fails, upto-all, out-of-range, counted, tasks-fit, all-fit}
 use Rattle.look.proofs.Surveying.{Looked, sooner-more, sooner-same, led-eased, led-busy, looked-none, looked-next, looked-event, looked-runs, unfit-is, fit-is}

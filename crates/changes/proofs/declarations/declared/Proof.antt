@@ -11,7 +11,6 @@ use Rattle.layout.specs.declared.Mark.{Mark}
 use Rattle.layout.proofs.MarksLaws.{alike}
 use Rattle.record.specs.Reading.{callWith}
 use Rattle.machine.specs.declared.State.{State}
-use Rattle.machine.specs.declared.Running.{Running}
 use Rattle.machine.specs.declared.Stepped.{Stepped}
 use Rattle.machine.specs.Refusals.{roomFor}
 use Rattle.machine.specs.Calls.{addSemaphore, declaration}
