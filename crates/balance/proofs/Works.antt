@@ -23,12 +23,12 @@ use Rattle.task.specs.declared.Turn.{Turn}
 use Rattle.task.specs.Promises.{Fair}
 use Rattle.machine.specs.declared.State.{State}
 use Rattle.machine.specs.declared.Running.{Running}
-use Rattle.machine.specs.Sets.{Set, Due, Started, Ended, Lost, Granted, has, only, setOf, mark, members, noSets, withGranted}
+use Rattle.machine.specs.Sets.{Set, Due, Started, Ended, Lost, has, only, setOf, mark, members, noSets, withGranted}
 use Rattle.machine.specs.declared.Sets.{Sets}
 use Rattle.machine.specs.State.{taskAt}
 use Rattle.machine.specs.Running.{runner}
 use Rattle.machine.specs.Work.{Work, changed, turns, everyTurn}
-use Rattle.machine.proofs.SetLaws.{members-each, no-members, has-empty, has-only, has-only-other, pow-pos, only-lt}
+use Rattle.machine.proofs.SetLaws.{members-each, no-members, each-regranted, has-empty, has-only, has-only-other, pow-pos, only-lt}
 use Rattle.machine.proofs.Facts.{StateOk, task-room}
 use Rattle.machine.proofs.Works.{oneTurn, turn-at, set-at, set-lt, set-none}
 use Rattle.machine.proofs.Done.{Role, plain}
@@ -75,11 +75,7 @@ abbrev pub Declared : ℕ → Sets → Type 0
 Declared n s = (x : Set) → members x s < 2 ^ n
 
 pub regranted : (n : ℕ) (s : Sets) (g : ℕ) → Declared n s → g < 2 ^ n → Declared n (withGranted g s)
-regranted n s g d h Due = d Due
-regranted n s g d h Started = d Started
-regranted n s g d h Ended = d Ended
-regranted n s g d h Lost = d Lost
-regranted n s g d h Granted = h
+regranted n = each-regranted (λ (m : ℕ). m < 2 ^ n)
 
 pub only-granted : (n g : ℕ) → g < 2 ^ n → Declared n (withGranted g noSets)
 only-granted n g h = regranted n noSets g (λ x. rw (no-members x) (pow-pos n)) h

@@ -11,7 +11,8 @@ use lib.ListN.{getD, length}
 use Rattle.lock.specs.Locks.{bit}
 use Rattle.task.specs.Turns.{unmarked}
 use Rattle.task.specs.declared.Task.{Task}
-use Rattle.machine.specs.Sets.{Set, Due, Started, Ended, Lost, Granted, has, only, put, setOf, mark, members, eachSet, noSets}
+use Rattle.machine.specs.Sets.{Set, Due, Started, Ended, Lost, Granted, has, only, put, setOf, mark, members, eachSet, noSets, withGranted}
+use Rattle.machine.specs.declared.Sets.{Sets}
 
 -- ---- the five
 
@@ -28,6 +29,14 @@ no-members x = members-each x (λ y. 0)
 -- What one rule makes of each, another one makes.
 pub each-same : (f g : Set → ℕ) → ((x : Set) → f x ≡ g x) → eachSet f ≡ eachSet g
 each-same f g e = rw (e Due, e Started, e Ended, e Lost, e Granted)
+
+-- What holds of each set, and of g, holds of each with g for the grants.
+pub each-regranted : (P : ℕ → Type 0) (s : Sets) (g : ℕ) → ((x : Set) → P (members x s)) → P g → (x : Set) → P (members x (withGranted g s))
+each-regranted P s g h p Due = h Due
+each-regranted P s g h p Started = h Started
+each-regranted P s g h p Ended = h Ended
+each-regranted P s g h p Lost = h Lost
+each-regranted P s g h p Granted = p
 
 -- A task without marks is in no set.
 pub unmarked-none : (x : Set) (t : Task) → mark x (unmarked t .marks) ≡ false

@@ -21,7 +21,7 @@ use Rattle.machine.specs.Sorts.{sortOf, runnerAt}
 use Rattle.machine.specs.Refusals.{declaredBy, declaredIn}
 use Rattle.machine.specs.Running.{runner}
 use Rattle.machine.specs.Serving.{Served, grantTo}
-use Rattle.machine.specs.Sets.{Set, Due, Started, Ended, Lost, Granted, setOf, mark, members, eachSet, noSets, withGranted}
+use Rattle.machine.specs.Sets.{Set, Granted, setOf, mark, members, eachSet, noSets}
 use Rattle.machine.specs.declared.Sets.{Sets}
 use Rattle.machine.specs.State.{mostTasks, taskAt, enabledAt}
 use Rattle.machine.specs.Step.{refuse, finish, declared, carryOut, step}
@@ -35,7 +35,7 @@ use Rattle.machine.specs.declared.Running.the-variants.{Idle, Runs}
 use Rattle.machine.proofs.Cases.{out-cases, step-cases}
 use Rattle.machine.proofs.Passed.{passed, tested}
 use Rattle.machine.proofs.Serving.{serve-keeps}
-use Rattle.machine.proofs.SetLaws.{members-each, only-lt, put-lt, setOf-lt}
+use Rattle.machine.proofs.SetLaws.{members-each, each-regranted, only-lt, put-lt, setOf-lt}
 use Rattle.machine.proofs.Urgency.{Below, runner-below}
 use Rattle.lines.specs.Lines.{RunningByte, InTypes}
 
@@ -48,13 +48,6 @@ Sized s = (x : Set) → Word (members x s)
 
 sized-each : (f : Set → ℕ) → ((x : Set) → Word (f x)) → Sized (eachSet f)
 sized-each f h x = rw (members-each x f) (h x)
-
-sized-regranted : (s : Sets) (g : ℕ) → Sized s → Word g → Sized (withGranted g s)
-sized-regranted s g h w Due = h Due
-sized-regranted s g h w Started = h Started
-sized-regranted s g h w Ended = h Ended
-sized-regranted s g h w Lost = h Lost
-sized-regranted s g h w Granted = w
 
 sized-empty : Sized noSets
 sized-empty = sized-each (λ x. 0) (λ x. omega arith)
@@ -117,7 +110,7 @@ module _ (k : State) where
           number = omega arith;
           running = running-byte (finish k w .answer .running) (runner-below (finish k w .state));
           sets =
-              sized-regranted (w .sets) _ s
+              each-regranted Word (w .sets) _ s
               (serve-keeps (k .counts .tasks) (λ (p : Served). Word (p .granted))
               (λ p j l e h. unfold grantTo in put-lt 32 j (p .granted) (omega arith) h) (k .counts .tasks) _ (s Granted));
         }
