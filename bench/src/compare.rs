@@ -85,8 +85,9 @@ fn expect(bytes: &[u8], coverage: &mut Coverage) -> Expected {
     };
     coverage.note_script();
     for (i, record) in bytes.chunks(RECORD).enumerate() {
+        let before = kernel.clone();
         let answer = kernel.step(record);
-        coverage.note(record, &answer);
+        coverage.note(&before, record, &answer);
         if has_line(&kernel, &answer) {
             push_line(&mut expected.text, &answer);
             expected.records.push(i);

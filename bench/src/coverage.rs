@@ -3,8 +3,8 @@
 use std::fmt;
 
 use crate::answer::Answer;
-use crate::limits::RECORD;
-use crate::record::LETTERS;
+use crate::kernel::{Kernel, State};
+use crate::record::{Mark, Record, LETTERS};
 
 #[derive(Default)]
 pub struct Coverage {
@@ -17,6 +17,14 @@ pub struct Coverage {
     numbers: [u64; 16],
     start_kinds: [u64; 6],
     end_kinds: [u64; 3],
+    continue_kinds: [u64; 5],
+    resume_kinds: [u64; 5],
+    /// Continuations that came due for a held task.
+    continued: u64,
+    /// Continuations that came due at the end of their task's delay.
+    with_delay: u64,
+    /// Continuations that came due for an unheld or terminated task.
+    in_vain: u64,
     /// Answers whose set due, started, ended, lost or granted has a task.
     sets: [u64; 5],
     /// Answers that grant to several tasks at once.
@@ -28,7 +36,8 @@ impl Coverage {
         self.scripts += 1;
     }
 
-    pub fn note(&mut self, record: &[u8], answer: &Answer) {
+    /// One record and its answer; `before` is the kernel that it found.
+    pub fn note(&mut self, before: &Kernel, record: &[u8], answer: &Answer) {
         self.records += 1;
         self.numbers[usize::from(answer.number)] += 1;
         let sets = &answer.sets;
@@ -37,20 +46,61 @@ impl Coverage {
             *count += u64::from(set != 0);
         }
         self.several_granted += u64::from(sets.granted.count_ones() > 1);
-        let known = LETTERS.iter().position(|l| record.starts_with(&l[..]));
-        let Some(mark) = known.filter(|_| record.len() == RECORD) else {
+        let Some(record) = Record::read(record) else {
             self.without_mark += 1;
             return;
         };
         if answer.number != 0 {
-            self.refused[mark] += 1;
+            self.refused[record.mark as usize] += 1;
             return;
         }
-        self.accepted[mark] += 1;
-        if LETTERS[mark] == b"AC" {
-            self.start_kinds[usize::from(record[9])] += 1;
-            self.end_kinds[usize::from(record[11])] += 1;
+        self.accepted[record.mark as usize] += 1;
+        self.note_kinds(&record);
+        self.note_continuations(before, &record);
+    }
+
+    fn note_kinds(&mut self, record: &Record) {
+        let kind = usize::from(record.start_kind);
+        match record.mark {
+            Mark::Activate => {
+                self.start_kinds[kind] += 1;
+                self.end_kinds[usize::from(record.end_kind)] += 1;
+            }
+            Mark::Continue => self.continue_kinds[kind] += 1,
+            Mark::Resume => self.resume_kinds[kind] += 1,
+            _ => {}
         }
+    }
+
+    /// What the continuations that come due in this call find.
+    fn note_continuations(&mut self, before: &Kernel, call: &Record) {
+        for (i, task) in before.declared_tasks().iter().enumerate() {
+            if !continuation_comes_due(before, call, i) {
+                continue;
+            }
+            match task.state {
+                State::DelayedUntil(instant) if instant == before.now + 1 => self.with_delay += 1,
+                _ if task.held() || call.mark == Mark::Resume => self.continued += 1,
+                _ => self.in_vain += 1,
+            }
+        }
+    }
+}
+
+/// Whether this call, which is accepted, makes a continuation of task `i` come due.
+fn continuation_comes_due(before: &Kernel, call: &Record, i: usize) -> bool {
+    let now = before.now;
+    let at_once = || before.first_due(call) == Some(now);
+    let pending = before.tasks[i].continuation;
+    match call.mark {
+        Mark::Tick => pending.is_some_and(|c| c.next == now + 1),
+        Mark::Trigger => {
+            let first = pending.and_then(|c| c.origin.first_after_trigger(call.number, now));
+            before.enabled[usize::from(call.number)] && first == Some(now)
+        }
+        Mark::Continue => usize::from(call.number) == i && at_once(),
+        Mark::Resume => before.running().map(usize::from) == Some(i) && at_once(),
+        _ => false,
     }
 }
 
@@ -72,6 +122,16 @@ impl fmt::Display for Coverage {
             f,
             "start kinds 0 to 5: {:?}, end kinds 0 to 2: {:?}",
             self.start_kinds, self.end_kinds
+        )?;
+        writeln!(
+            f,
+            "kinds 0 to 4 of CO: {:?}, of RE: {:?}",
+            self.continue_kinds, self.resume_kinds
+        )?;
+        writeln!(
+            f,
+            "continuations come due for a held task {}, as its delay ends {}, in vain {}",
+            self.continued, self.with_delay, self.in_vain
         )?;
         let [due, started, ended, lost, granted] = self.sets;
         writeln!(

@@ -4,6 +4,7 @@ use crate::answer::Sets;
 use crate::calendar::{next_showing, Instant};
 use crate::kernel::{End, Kernel, Origin, Priority, Schedule, State, Task};
 use crate::limits::LAST_INSTANT;
+use crate::record::Record;
 
 impl Task {
     /// A start falls due; `number` is that of this task.
@@ -49,6 +50,17 @@ impl Task {
 }
 
 impl Kernel {
+    /// When the start or continuation of this record first comes due; none:
+    /// not before a trigger.
+    pub fn first_due(&self, record: &Record) -> Option<Instant> {
+        match record.start_kind {
+            1 => Some(next_showing(self.at_zero, self.now, record.first)),
+            2 => Some(self.now + u64::from(record.first)),
+            5 => Some(self.now),
+            _ => None,
+        }
+    }
+
     /// Gives task `i` this schedule, which first comes due at `first`.
     pub fn set_going(&mut self, i: usize, mut schedule: Schedule, first: Instant, sets: &mut Sets) {
         schedule.next = first;
@@ -61,27 +73,32 @@ impl Kernel {
         self.tasks[i].check_schedule(i, self.now, sets);
     }
 
-    /// Sets going every schedule that waits for this interrupt.
+    /// Sets going every continuation and schedule that waits for this interrupt.
     pub fn trigger(&mut self, interrupt: u8, sets: &mut Sets) {
+        let now = self.now;
         for i in 0..self.declared_tasks().len() {
-            let Some(schedule) = self.tasks[i].schedule else {
-                continue;
-            };
-            match schedule.origin {
-                Origin::Interrupt(own) if own == interrupt => {
-                    self.set_going(i, schedule, self.now, sets);
+            let Task {
+                continuation,
+                schedule,
+                ..
+            } = self.tasks[i];
+            if let Some(continuation) = continuation {
+                let first = continuation.origin.first_after_trigger(interrupt, now);
+                if first.is_some() {
+                    self.tasks[i].set_continuation(continuation, first, now);
                 }
-                Origin::InterruptAfter(own, pause) if own == interrupt => {
-                    self.set_going(i, schedule, self.now + u64::from(pause), sets);
+            }
+            if let Some(schedule) = schedule {
+                if let Some(first) = schedule.origin.first_after_trigger(interrupt, now) {
+                    self.set_going(i, schedule, first, sets);
                 }
-                _ => {}
             }
         }
     }
 
-    /// The next instant: delays that are over, then dues.
+    /// The next instant: delays that are over, then continuations, then dues.
     ///
-    /// Neither looks at another task, so one pass does for both. Hands back
+    /// None of them looks at another task, so one pass does for all. Hands back
     /// whether some task may run now that could not before.
     pub fn tick(&mut self, sets: &mut Sets) -> bool {
         self.now += 1;
@@ -94,6 +111,7 @@ impl Kernel {
                     unheld = true;
                 }
             }
+            unheld |= task.check_continuation(now);
             task.check_schedule(i, now, sets);
         }
         unheld || sets.started != 0

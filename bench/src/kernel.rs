@@ -39,7 +39,7 @@ pub enum State {
     DelayedUntil(Instant),
 }
 
-/// What sets a schedule going.
+/// What sets a schedule or a continuation going.
 #[derive(Clone, Copy, PartialEq, Eq, Debug)]
 pub enum Origin {
     /// It was set going when it was made.
@@ -48,6 +48,17 @@ pub enum Origin {
     Interrupt(u8),
     /// A trigger of this interrupt, and then this long a pause.
     InterruptAfter(u8, Millis),
+}
+
+impl Origin {
+    /// The first due after a trigger of `interrupt` now, if that is the one waited for.
+    pub fn first_after_trigger(self, interrupt: u8, now: Instant) -> Option<Instant> {
+        match self {
+            Origin::Interrupt(own) if own == interrupt => Some(now),
+            Origin::InterruptAfter(own, pause) if own == interrupt => Some(now + u64::from(pause)),
+            _ => None,
+        }
+    }
 }
 
 #[derive(Clone, Copy, PartialEq, Eq, Debug)]
@@ -71,6 +82,18 @@ pub struct Schedule {
     pub last: Instant,
 }
 
+/// What unholds a task later, each time once.
+#[derive(Clone, Copy, PartialEq, Eq, Debug)]
+pub struct Continuation {
+    /// The priority that the task goes on with; none: the one it then has.
+    pub priority: Option<Priority>,
+    pub origin: Origin,
+    /// One made by RESUME is gone once it came due.
+    pub by_resume: bool,
+    /// When it comes due; 0, an instant that no tick reaches, if not before a trigger.
+    pub next: Instant,
+}
+
 #[derive(Clone, Copy, PartialEq, Eq, Debug)]
 pub struct Task {
     pub declared: Priority,
@@ -80,6 +103,7 @@ pub struct Task {
     pub kept: Option<Priority>,
     pub wait: Wait,
     pub schedule: Option<Schedule>,
+    pub continuation: Option<Continuation>,
 }
 
 impl Task {
@@ -91,6 +115,7 @@ impl Task {
             kept: None,
             wait: Wait::Nothing,
             schedule: None,
+            continuation: None,
         }
     }
 

@@ -3,6 +3,7 @@
 mod answer;
 mod calendar;
 mod compare;
+mod continuation;
 mod coverage;
 mod draft;
 mod due;

@@ -1,7 +1,7 @@
 //! The 24 bytes of a record and the rules that need no kernel.
 
 use crate::calendar::{is_duration, is_time_of_day, Millis};
-use crate::kernel::List;
+use crate::kernel::{List, Origin};
 use crate::limits::{FULL, LIST, LONGEST, RECORD};
 
 #[derive(Clone, Copy, PartialEq, Eq, Debug)]
@@ -120,19 +120,22 @@ const FIRST: Words = bytes(12, 16);
 const PERIOD: Words = bytes(16, 20);
 const END: Words = bytes(20, 24);
 
-/// What an activation uses, by start kind; the end time apart.
-const ACTIVATION: [Words; 6] = {
-    let plain = join(join(MARK, NUMBER), join(PRIORITY, START_KIND));
-    let repeated = join(plain, join(PERIOD, END_KIND));
-    [
-        plain,
-        join(repeated, FIRST),
-        join(repeated, FIRST),
-        join(repeated, INTERRUPT),
-        join(repeated, join(INTERRUPT, FIRST)),
-        repeated,
-    ]
-};
+/// A task and the priority that it is to have.
+const TASK: Words = join(NUMBER, PRIORITY);
+/// How a start is repeated; the end time apart.
+const REPETITION: Words = join(PERIOD, END_KIND);
+
+/// What tells the first due, by start kind.
+const CONDITION: [Words; 6] = [
+    START_KIND,
+    join(START_KIND, FIRST),
+    join(START_KIND, FIRST),
+    join(START_KIND, INTERRUPT),
+    join(START_KIND, join(INTERRUPT, FIRST)),
+    START_KIND,
+];
+/// The last start kind of CONTINUE and RESUME.
+const LAST_CONTINUATION: u8 = 4;
 
 /// What a call with a list uses, by length.
 const WITH_LIST: [Words; LIST + 1] = [
@@ -183,12 +186,12 @@ impl Record {
             Mark::DeclareSemaphore => {
                 self.first <= Millis::from(FULL) && self.uses_only(join(MARK, FIRST))
             }
-            Mark::DeclareClock | Mark::Resume => self.uses_only(join(MARK, FIRST)),
+            Mark::DeclareClock => self.uses_only(join(MARK, FIRST)),
             Mark::DeclareBolt | Mark::DeclareInterrupt | Mark::EndSelf | Mark::Tick => {
                 self.uses_only(MARK)
             }
             Mark::Activate => self.activation_fields_are_good(),
-            Mark::Continue => self.uses_only(join(MARK, join(NUMBER, PRIORITY))),
+            Mark::Continue | Mark::Resume => self.continuation_fields_are_good(),
             Mark::Terminate
             | Mark::Suspend
             | Mark::Prevent
@@ -209,13 +212,47 @@ impl Record {
     }
 
     fn activation_fields_are_good(&self) -> bool {
-        let Some(used) = ACTIVATION.get(usize::from(self.start_kind)) else {
+        let Some(condition) = CONDITION.get(usize::from(self.start_kind)) else {
             return false;
         };
-        match self.end_kind {
-            0 => self.uses_only(*used),
-            1 | 2 => self.uses_only(join(*used, END)),
+        let plain = join(join(MARK, TASK), *condition);
+        match (self.start_kind, self.end_kind) {
+            (0, _) => self.uses_only(plain),
+            (_, 0) => self.uses_only(join(plain, REPETITION)),
+            (_, 1 | 2) => self.uses_only(join(plain, join(REPETITION, END))),
             _ => false,
+        }
+    }
+
+    fn continuation_fields_are_good(&self) -> bool {
+        if self.start_kind > LAST_CONTINUATION {
+            return false;
+        }
+        let plain = join(MARK, CONDITION[usize::from(self.start_kind)]);
+        self.uses_only(if self.mark == Mark::Continue {
+            join(plain, TASK)
+        } else if self.is_delay() {
+            join(plain, FIRST)
+        } else {
+            plain
+        })
+    }
+
+    /// RESUME of kind 0: its first time is the delay.
+    pub fn is_delay(&self) -> bool {
+        self.mark == Mark::Resume && self.start_kind == 0
+    }
+
+    pub fn needs_interrupt(&self) -> bool {
+        matches!(self.start_kind, 3 | 4)
+    }
+
+    /// What sets the schedule or continuation of this record going.
+    pub fn origin(&self) -> Origin {
+        match self.start_kind {
+            3 => Origin::Interrupt(self.interrupt),
+            4 => Origin::InterruptAfter(self.interrupt, self.first),
+            _ => Origin::Clock,
         }
     }
 
@@ -248,24 +285,27 @@ impl Record {
     pub fn times_are_good(&self) -> bool {
         match self.mark {
             Mark::DeclareClock => is_time_of_day(self.first),
-            Mark::Resume => is_duration(self.first),
-            Mark::Activate => self.activation_times_are_good(),
+            Mark::Continue | Mark::Resume => self.first_is_good(),
+            Mark::Activate => self.first_is_good() && self.repetition_is_good(),
             _ => true,
         }
     }
 
-    fn activation_times_are_good(&self) -> bool {
-        let first_is_good = match self.start_kind {
+    fn first_is_good(&self) -> bool {
+        match self.start_kind {
             1 => is_time_of_day(self.first),
             2 | 4 => is_duration(self.first),
-            5 => self.period > 0,
-            _ => true,
-        };
+            _ => !self.is_delay() || is_duration(self.first),
+        }
+    }
+
+    fn repetition_is_good(&self) -> bool {
+        let period_is_good = self.period <= LONGEST && (self.start_kind != 5 || self.period > 0);
         let end_is_good = match self.end_kind {
             0 => true,
             1 => self.period > 0 && is_time_of_day(self.end),
             _ => self.period > 0 && is_duration(self.end),
         };
-        first_is_good && end_is_good && self.period <= LONGEST
+        period_is_good && end_is_good
     }
 }

@@ -5,7 +5,7 @@
 //! that is held, needs no test.
 
 use crate::calendar::{is_duration, is_time_of_day};
-use crate::kernel::{End, Kernel, List, Origin, Schedule, State, Task, Wait};
+use crate::kernel::{Continuation, End, Kernel, List, Origin, Schedule, State, Task, Wait};
 use crate::limits::{BOLTS, INTERRUPTS, LAST_INSTANT, LAST_TICK, LIST, LONGEST, SEMAPHORES, TASKS};
 use crate::runner::Runner;
 
@@ -29,6 +29,11 @@ impl Kernel {
             }
             if let Some(schedule) = &task.schedule {
                 if !self.schedule_is_sound(schedule) {
+                    return Err(Unsound);
+                }
+            }
+            if let Some(continuation) = &task.continuation {
+                if !self.continuation_is_sound(continuation) {
                     return Err(Unsound);
                 }
             }
@@ -69,13 +74,7 @@ impl Kernel {
     #[inline]
     fn schedule_is_sound(&self, schedule: &Schedule) -> bool {
         schedule.period <= LONGEST
-            && match schedule.origin {
-                Origin::Clock => true,
-                Origin::Interrupt(i) => i < self.counts.interrupts,
-                Origin::InterruptAfter(i, pause) => {
-                    i < self.counts.interrupts && is_duration(pause)
-                }
-            }
+            && self.origin_is_sound(schedule.origin)
             && match schedule.end {
                 End::Never => true,
                 End::Until(time) => is_time_of_day(time),
@@ -83,6 +82,20 @@ impl Kernel {
             }
             && schedule.next <= LAST_INSTANT
             && schedule.last <= LAST_INSTANT
+    }
+
+    #[inline]
+    fn continuation_is_sound(&self, continuation: &Continuation) -> bool {
+        self.origin_is_sound(continuation.origin) && continuation.next <= LAST_INSTANT
+    }
+
+    #[inline(always)]
+    fn origin_is_sound(&self, origin: Origin) -> bool {
+        match origin {
+            Origin::Clock => true,
+            Origin::Interrupt(i) => i < self.counts.interrupts,
+            Origin::InterruptAfter(i, pause) => i < self.counts.interrupts && is_duration(pause),
+        }
     }
 }
 

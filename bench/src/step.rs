@@ -1,8 +1,7 @@
 //! One record carried out, or refused without a trace.
 
 use crate::answer::{Answer, Sets};
-use crate::calendar::next_showing;
-use crate::kernel::{Bolt, End, Kernel, List, Origin, Priority, Schedule, State, Task, Wait};
+use crate::kernel::{Bolt, End, Kernel, List, Priority, Schedule, State, Task, Wait};
 use crate::limits::{BOLTS, FULL, INTERRUPTS, LAST_TICK, SEMAPHORES, TASKS};
 use crate::record::{Mark, Record};
 
@@ -60,15 +59,12 @@ impl Kernel {
     /// Refusal 5.
     fn names_are_declared(&self, record: &Record) -> bool {
         let all_below = |count: u8| record.list.numbers().iter().all(|&n| n < count);
+        let task = record.number < self.counts.tasks;
+        let interrupt = !record.needs_interrupt() || record.interrupt < self.counts.interrupts;
         match record.mark {
-            Mark::Activate => {
-                let needs_interrupt = matches!(record.start_kind, 3 | 4);
-                record.number < self.counts.tasks
-                    && (!needs_interrupt || record.interrupt < self.counts.interrupts)
-            }
-            Mark::Terminate | Mark::Suspend | Mark::Prevent | Mark::Continue => {
-                record.number < self.counts.tasks
-            }
+            Mark::Activate | Mark::Continue => task && interrupt,
+            Mark::Resume => interrupt,
+            Mark::Terminate | Mark::Suspend | Mark::Prevent => task,
             Mark::Trigger | Mark::Enable | Mark::Disable => record.number < self.counts.interrupts,
             Mark::Request | Mark::Release | Mark::Try => all_below(self.counts.semaphores),
             Mark::Reserve | Mark::Free | Mark::Enter | Mark::Leave => all_below(self.counts.bolts),
@@ -122,26 +118,32 @@ impl Kernel {
             Mark::Prevent => {
                 let task = &mut self.tasks[i];
                 task.schedule = None;
+                task.continuation = None;
                 if task.kept.take().is_some() {
                     sets.lost |= 1 << i;
                 }
                 return Ok(Runner::Stays);
             }
+            Mark::Continue if record.start_kind > 0 => self.continue_later(i, record),
             Mark::Continue => {
                 let task = &mut self.tasks[i];
                 refuse_if(!task.alive(), 10)?;
                 refuse_if(!task.held(), 12)?;
-                task.state = State::Unheld;
-                task.current = Priority::new(record.priority).unwrap_or(task.current);
+                task.unhold(Priority::new(record.priority));
             }
             Mark::EndSelf => {
                 let runner = running.ok_or(8)?;
                 self.end_task(usize::from(runner), sets);
             }
             Mark::Resume => {
-                let runner = running.ok_or(8)?;
-                let until = self.now + u64::from(record.first);
-                self.tasks[usize::from(runner)].state = State::DelayedUntil(until);
+                let runner = usize::from(running.ok_or(8)?);
+                if record.is_delay() {
+                    let until = self.now + u64::from(record.first);
+                    self.tasks[runner].state = State::DelayedUntil(until);
+                } else {
+                    self.tasks[runner].state = State::Suspended;
+                    self.continue_later(runner, record);
+                }
             }
             Mark::Request => return self.ask(running, Wait::Request(record.list), sets),
             Mark::Reserve => return self.ask(running, Wait::Reserve(record.list), sets),
@@ -195,11 +197,7 @@ impl Kernel {
         }
         let schedule = Schedule {
             priority,
-            origin: match record.start_kind {
-                3 => Origin::Interrupt(record.interrupt),
-                4 => Origin::InterruptAfter(record.interrupt, record.first),
-                _ => Origin::Clock,
-            },
+            origin: record.origin(),
             period: record.period,
             end: match record.end_kind {
                 0 => End::Never,
@@ -209,14 +207,9 @@ impl Kernel {
             next: 0,
             last: 0,
         };
-        match record.start_kind {
-            1 => {
-                let first = next_showing(self.at_zero, self.now, record.first);
-                self.set_going(i, schedule, first, sets);
-            }
-            2 => self.set_going(i, schedule, self.now + u64::from(record.first), sets),
-            5 => self.set_going(i, schedule, self.now, sets),
-            _ => self.tasks[i].schedule = Some(schedule),
+        match self.first_due(record) {
+            Some(first) => self.set_going(i, schedule, first, sets),
+            None => self.tasks[i].schedule = Some(schedule),
         }
         Ok(())
     }

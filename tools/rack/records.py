@@ -17,25 +17,23 @@ TIME_LIMIT = 2**32 - 1
 PLACES = {"DT": 32, "DS": 16, "DB": 16, "IT": 8}
 DECLARATIONS = set(PLACES) | {"DC"}
 
-# Which fields each mark uses; AC uses more, by start kind and end kind.
+# Which fields each mark uses; AC, CO and RE use more, by start kind and end kind.
 LIST_MARKS = ("RQ", "RL", "TR", "RS", "FR", "ET", "LV")
 USED = {
     "DT": {"priority"}, "DS": {"first"}, "DB": set(), "IT": set(), "DC": {"first"},
     "AC": {"number", "priority", "kind"},
-    "TE": {"number"}, "SU": {"number"}, "PR": {"number"}, "CO": {"number", "priority"},
-    "EN": set(), "RE": {"first"},
+    "TE": {"number"}, "SU": {"number"}, "PR": {"number"}, "CO": {"number", "priority", "kind"},
+    "EN": set(), "RE": {"kind"},
     **{mark: {"length", "places"} for mark in LIST_MARKS},
     "TG": {"number"}, "EI": {"number"}, "XI": {"number"}, "TI": set(),
 }
 AT, AFTER, WHEN, WHEN_AFTER, ALL = 1, 2, 3, 4, 5
 USED_BY_KIND = {
-    0: set(),
-    AT: {"first", "period", "end_kind"},
-    AFTER: {"first", "period", "end_kind"},
-    WHEN: {"interrupt", "period", "end_kind"},
-    WHEN_AFTER: {"interrupt", "first", "period", "end_kind"},
-    ALL: {"period", "end_kind"},
+    0: set(), AT: {"first"}, AFTER: {"first"}, WHEN: {"interrupt"},
+    WHEN_AFTER: {"interrupt", "first"}, ALL: set(),
 }
+# The marks with a start kind, and the highest that each takes.
+LAST_KIND = {"AC": ALL, "CO": WHEN_AFTER, "RE": WHEN_AFTER}
 UNTIL, DURING = 1, 2
 
 NAMES = {
@@ -104,8 +102,8 @@ def _wrong_field(f):
         return "priority 0 for a task"
     if f.mark == "DS" and f.first > MOST_PRESET:
         return f"preset {f.first}, at most {MOST_PRESET}"
-    if f.mark == "AC" and f.kind > ALL:
-        return f"start kind {f.kind}, at most {ALL}"
+    if f.mark in LAST_KIND and f.kind > LAST_KIND[f.mark]:
+        return f"start kind {f.kind}, at most {LAST_KIND[f.mark]}"
     if f.mark in LIST_MARKS and f.length > LIST_PLACES:
         return f"list length {f.length}, at most {LIST_PLACES}"
     used = _used(f)
@@ -121,11 +119,18 @@ def _wrong_field(f):
 
 def _used(f):
     used = USED[f.mark]
-    if f.mark == "AC":
+    if f.mark in LAST_KIND:
         used = used | USED_BY_KIND[f.kind]
-        if "end_kind" in used and f.end_kind:
-            used = used | {"end"}
+    if f.mark == "AC" and f.kind:
+        used = used | {"period", "end_kind"} | ({"end"} if f.end_kind else set())
+    if is_delay(f):
+        used = used | {"first"}
     return used
+
+
+def is_delay(f):
+    """RESUME without a schedule: the plain delay."""
+    return f.mark == "RE" and f.kind == 0
 
 
 def _wrong_list(f):
@@ -143,9 +148,7 @@ def _wrong_list(f):
 def _wrong_time(f):
     if f.mark == "DC":
         return _wrong_time_of_day(f.first)
-    if f.mark == "RE":
-        return _wrong_duration(f.first)
-    if f.mark == "AC":
+    if f.mark in LAST_KIND:
         return _wrong_first(f) or _wrong_period(f) or _wrong_end(f)
     return None
 
@@ -153,7 +156,7 @@ def _wrong_time(f):
 def _wrong_first(f):
     if f.kind == AT:
         return _wrong_time_of_day(f.first)
-    if f.kind in (AFTER, WHEN_AFTER):
+    if f.kind in (AFTER, WHEN_AFTER) or is_delay(f):
         return _wrong_duration(f.first)
     return None
 

@@ -179,16 +179,24 @@ def _read_task_and_priority(words, mark, **fields):
 
 def _read_at(words):
     words.take("AT")
-    return _read_repetition(words, kind=records.AT, first=_read_time_of_day(words))
+    return _read_scheduled(words, kind=records.AT, first=_read_time_of_day(words))
 
 
 def _read_after(words):
     words.take("AFTER")
     first = _read_duration(words)
     if words.take("RESUME"):
+        return _read_delay(words, first)
+    return _read_scheduled(words, kind=records.AFTER, first=first)
+
+
+def _read_delay(words, first):
+    """The plain delay, or the schedule that suspends the runner meanwhile."""
+    if words.take("SUSPENDED"):
         words.end()
-        return pack("RE", first=first)
-    return _read_repetition(words, also=["RESUME"], kind=records.AFTER, first=first)
+        return pack("RE", kind=records.AFTER, first=first)
+    words.end("SUSPENDED or the end of the line")
+    return pack("RE", first=first)
 
 
 def _read_when(words):
@@ -196,29 +204,39 @@ def _read_when(words):
     interrupt = words.number("an interrupt number", BYTE_LIMIT)
     if words.take("AFTER"):
         first = _read_duration(words)
-        return _read_repetition(words, kind=records.WHEN_AFTER, interrupt=interrupt, first=first)
-    return _read_repetition(words, also=["AFTER"], kind=records.WHEN, interrupt=interrupt)
+        return _read_scheduled(words, kind=records.WHEN_AFTER, interrupt=interrupt, first=first)
+    return _read_scheduled(words, also=["AFTER"], kind=records.WHEN, interrupt=interrupt)
 
 
 def _read_all(words):
-    return _read_repetition(words, kind=records.ALL)
+    return _read_start(words, kind=records.ALL)
 
 
-def _read_repetition(words, also=(), **start):
-    """The rest of a start condition: period, end, and the task to activate."""
-    choices = ["ALL", "UNTIL", "DURING", "ACTIVATE"]
+def _read_scheduled(words, also=(), **when):
+    """The call behind AT, AFTER or WHEN; only a start goes on from there."""
+    if words.take("CONTINUE"):
+        return _read_task_and_priority(words, "CO", **when)
+    if words.take("RESUME"):
+        words.end()
+        return pack("RE", **when)
+    choices = [*also, "ALL", "UNTIL", "DURING", "ACTIVATE", "CONTINUE", "RESUME"]
+    return _read_start(words, choices, **when)
+
+
+def _read_start(words, choices=(), **when):
+    """The rest of a start: period, end, and the task; choices are what may stand here."""
     period = end_kind = end = 0
     if words.take("ALL"):
         period = _read_duration(words)
-        choices, also = choices[1:], ()
+        choices = ["UNTIL", "DURING", "ACTIVATE"]
     if words.take("UNTIL"):
         end_kind, end = records.UNTIL, _read_time_of_day(words)
-        choices, also = ["ACTIVATE"], ()
+        choices = ["ACTIVATE"]
     elif words.take("DURING"):
         end_kind, end = records.DURING, _read_duration(words)
-        choices, also = ["ACTIVATE"], ()
-    words.need("ACTIVATE", _either([*also, *choices]))
-    return _read_task_and_priority(words, "AC", period=period, end_kind=end_kind, end=end, **start)
+        choices = ["ACTIVATE"]
+    words.need("ACTIVATE", _either(choices))
+    return _read_task_and_priority(words, "AC", period=period, end_kind=end_kind, end=end, **when)
 
 
 def _either(choices):
@@ -320,13 +338,9 @@ def _write_call(f):
         return f"SEMA PRESET {f.first}"
     if f.mark == "DC":
         return f"CLOCK {write_time_of_day(f.first)}"
-    if f.mark == "RE":
-        return f"AFTER {write_duration(f.first)} RESUME"
     if f.mark == "TI":
         return "TICK"
-    if f.mark == "CO":
-        return f"CONTINUE {f.number}{_priority(f)}"
-    return _write_start(f) + f"ACTIVATE {f.number}{_priority(f)}"
+    return _write_start(f) + _write_started(f)
 
 
 WORD_OF = {mark: word for table in (BARE, NUMBERED, LISTED) for word, mark in table.items()}
@@ -338,8 +352,13 @@ def _arguments(f):
     return [str(number) for number in f.numbers]
 
 
-def _priority(f):
-    return f" PRIO {f.priority}" if f.priority else ""
+def _write_started(f):
+    """What a start condition brings about."""
+    if f.mark == "RE":
+        return "RESUME SUSPENDED" if f.kind == records.AFTER else "RESUME"
+    word = "ACTIVATE" if f.mark == "AC" else "CONTINUE"
+    priority = f" PRIO {f.priority}" if f.priority else ""
+    return f"{word} {f.number}{priority}"
 
 
 def _write_start(f):
@@ -348,7 +367,7 @@ def _write_start(f):
         parts.append(f"AT {write_time_of_day(f.first)}")
     if f.kind in (records.WHEN, records.WHEN_AFTER):
         parts.append(f"WHEN {f.interrupt}")
-    if f.kind in (records.AFTER, records.WHEN_AFTER):
+    if f.kind in (records.AFTER, records.WHEN_AFTER) or records.is_delay(f):
         parts.append(f"AFTER {write_duration(f.first)}")
     if f.period:
         parts.append(f"ALL {write_duration(f.period)}")

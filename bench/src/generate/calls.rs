@@ -3,7 +3,7 @@
 use super::{numbers_where, Kind, Maker};
 use crate::calendar::time_of_day;
 use crate::draft::Draft;
-use crate::kernel::State;
+use crate::kernel::{State, Task};
 use crate::limits::{DAY, FULL, LONGEST};
 
 type Weights = [(&'static [u8; 2], u32)];
@@ -14,9 +14,9 @@ const EVEN: &Weights = &[
     (b"TE", 3),
     (b"SU", 4),
     (b"PR", 3),
-    (b"CO", 5),
+    (b"CO", 7),
     (b"EN", 4),
-    (b"RE", 4),
+    (b"RE", 5),
     (b"RQ", 6),
     (b"RL", 6),
     (b"TR", 4),
@@ -54,11 +54,11 @@ const CONTENDED: &Weights = &[
 const IDLE: &Weights = &[
     (b"AC", 14),
     (b"TE", 3),
-    (b"SU", 2),
+    (b"SU", 4),
     (b"PR", 2),
-    (b"CO", 2),
+    (b"CO", 6),
     (b"EN", 8),
-    (b"RE", 4),
+    (b"RE", 5),
     (b"RQ", 1),
     (b"RL", 1),
     (b"TR", 1),
@@ -117,14 +117,10 @@ impl Maker {
             b"SU" => draft.on(self.some_task(|t| t.alive() && t.state != State::Suspended)?),
             b"PR" => {
                 let any = self.random.once_in(4);
-                draft.on(self.some_task(|t| any || t.schedule.is_some() || t.kept.is_some())?)
+                draft.on(self.some_task(|t| any || has_something_to_come(t))?)
             }
-            b"CO" => {
-                let task = self.some_task(|t| t.held())?;
-                let priority = self.priority_or_none();
-                draft.on(task).priority(priority)
-            }
-            b"RE" => draft.first(self.duration()),
+            b"CO" => return self.continuation(),
+            b"RE" => self.resumption(),
             b"RQ" | b"TR" | b"RS" | b"ET" => draft.list(&self.wish(mark)?),
             b"RL" => draft.list(&self.some_of(self.semaphores(|value| value < FULL))?),
             b"FR" => draft.list(&self.some_of(self.bolts(|writer, _| writer))?),
@@ -148,11 +144,8 @@ impl Maker {
                 if self.random.percent(50) {
                     return draft.on(task);
                 }
-                let mut start = self.scheduled(task);
-                if matches!(start.start_kind, 3 | 4) && self.random.once_in(4) {
-                    start.interrupt = counts.interrupts;
-                }
-                start
+                let start = self.scheduled(task);
+                self.with_stray_interrupt(start)
             }
             b"SU" => {
                 let any = number(counts.tasks);
@@ -160,7 +153,15 @@ impl Maker {
                     .some_task(|t| t.state == State::Suspended)
                     .unwrap_or(any))
             }
-            b"TE" | b"PR" | b"CO" => draft.on(number(counts.tasks)),
+            b"CO" => {
+                let task = number(counts.tasks);
+                if self.random.percent(50) {
+                    return draft.on(task);
+                }
+                let later = self.continued_later(task);
+                self.with_stray_interrupt(later)
+            }
+            b"TE" | b"PR" => draft.on(number(counts.tasks)),
             b"TG" | b"EI" | b"XI" => draft.on(number(counts.interrupts)),
             b"RL" => {
                 let any = number(counts.semaphores);
@@ -169,9 +170,20 @@ impl Maker {
             }
             b"RQ" | b"TR" => draft.list(&[number(counts.semaphores)]),
             b"RS" | b"FR" | b"ET" | b"LV" => draft.list(&[number(counts.bolts)]),
-            b"RE" => draft.first(self.duration()),
+            b"RE" => {
+                let resumption = self.resumption();
+                self.with_stray_interrupt(resumption)
+            }
             _ => draft,
         }
+    }
+
+    /// If the draft names an interrupt, now and then one that isn't declared.
+    fn with_stray_interrupt(&mut self, mut draft: Draft) -> Draft {
+        if matches!(draft.start_kind, 3 | 4) && self.random.once_in(4) {
+            draft.interrupt = self.kernel.counts.interrupts;
+        }
+        draft
     }
 
     fn activation(&mut self) -> Option<Draft> {
@@ -193,24 +205,67 @@ impl Maker {
     fn scheduled(&mut self, task: u8) -> Draft {
         let priority = self.priority_or_none();
         let draft = Draft::new(b"AC").on(task).priority(priority);
-        let interrupts = u32::from(self.kernel.counts.interrupts);
-        let interrupt = self.random.below(interrupts.max(1)) as u8;
-        let kinds = if interrupts > 0 { 5 } else { 3 };
-        let draft = match self.random.below(kinds) {
-            0 => draft.at(self.time()),
-            1 => draft.after(self.duration()),
-            2 => {
-                let period = self.duration();
-                return self.with_end(draft.all(period));
-            }
-            3 => draft.when(interrupt),
-            _ => draft.when_after(interrupt, self.duration()),
-        };
+        if self.random.once_in(5) {
+            let period = self.duration();
+            return self.with_end(draft.all(period));
+        }
+        let draft = self.conditioned(draft);
         if self.random.percent(40) {
             return draft;
         }
         let period = self.duration();
         self.with_end(draft.every(period))
+    }
+
+    /// A start kind from 1 to 4; without interrupts AT or AFTER.
+    fn conditioned(&mut self, draft: Draft) -> Draft {
+        let interrupts = u32::from(self.kernel.counts.interrupts);
+        let interrupt = self.random.below(interrupts.max(1)) as u8;
+        let kinds = if interrupts > 0 { 4 } else { 2 };
+        match self.random.below(kinds) {
+            0 => draft.at(self.time()),
+            1 => draft.after(self.duration()),
+            2 => draft.when(interrupt),
+            _ => draft.when_after(interrupt, self.duration()),
+        }
+    }
+
+    /// A CONTINUE that is accepted: at once for a held task, later for any.
+    fn continuation(&mut self) -> Option<Draft> {
+        if self.random.percent(50) {
+            let task = self.some_task(|t| t.held())?;
+            let priority = self.priority_or_none();
+            return Some(Draft::new(b"CO").on(task).priority(priority));
+        }
+        let any = self.random.once_in(3);
+        let task = self.some_task(|t| any || t.held())?;
+        Some(self.continued_later(task))
+    }
+
+    /// A CONTINUE of kind 1 to 4, now and then for the very end of a delay.
+    fn continued_later(&mut self, task: u8) -> Draft {
+        let priority = self.priority_or_none();
+        let draft = Draft::new(b"CO").on(task).priority(priority);
+        match self.rest_of_delay(task) {
+            Some(rest) if self.random.once_in(3) => draft.after(rest),
+            _ => self.conditioned(draft),
+        }
+    }
+
+    fn rest_of_delay(&self, task: u8) -> Option<u32> {
+        match self.kernel.tasks.get(usize::from(task))?.state {
+            State::DelayedUntil(instant) => Some((instant - self.kernel.now) as u32),
+            _ => None,
+        }
+    }
+
+    /// A RESUME, half of them the plain delay.
+    fn resumption(&mut self) -> Draft {
+        let draft = Draft::new(b"RE");
+        if self.random.percent(50) {
+            return draft.first(self.duration());
+        }
+        self.conditioned(draft)
     }
 
     fn with_end(&mut self, draft: Draft) -> Draft {
@@ -298,4 +353,9 @@ impl Maker {
         let fitting = numbers_where(&self.kernel.enabled[..count], |&e| any || e == enabled);
         self.one_of(&fitting)
     }
+}
+
+/// Whether PREVENT finds something in this task.
+fn has_something_to_come(task: &Task) -> bool {
+    task.schedule.is_some() || task.kept.is_some() || task.continuation.is_some()
 }

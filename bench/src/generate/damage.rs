@@ -28,6 +28,7 @@ impl Maker {
             0..=1 => self.declaration(),
             2 => return self.put_list_call(),
             3 => return self.put_odd_activation(),
+            4 => return self.put_odd_continuation(),
             _ => self.call(),
         };
         let mut times = 1;
@@ -76,17 +77,11 @@ impl Maker {
 
     /// An activation with only the right fields, but with odd times in them.
     fn put_odd_activation(&mut self) {
-        let counts = self.kernel.counts;
-        let task = self.random.between(0, u32::from(counts.tasks)) as u8;
-        let interrupt = self.random.between(0, u32::from(counts.interrupts)) as u8;
-        let time = self.random.pick(&ODD_TIMES);
+        let task = self.nearly_any_task();
         let draft = Draft::new(b"AC").on(task);
         let mut draft = match self.random.below(5) {
-            0 => draft.at(time),
-            1 => draft.after(time),
-            2 => draft.when(interrupt),
-            3 => draft.when_after(interrupt, time),
-            _ => draft.all(time),
+            0 => draft.all(self.random.pick(&ODD_TIMES)),
+            _ => self.oddly_conditioned(draft),
         };
         if self.random.percent(60) {
             draft.period = self.random.pick(&ODD_TIMES);
@@ -98,6 +93,48 @@ impl Maker {
             _ => draft.during(end),
         };
         self.put(draft);
+    }
+
+    /// A CONTINUE or RESUME with odd times, or with what neither of them has.
+    fn put_odd_continuation(&mut self) {
+        let task = self.nearly_any_task();
+        let draft = match self.random.below(2) {
+            0 => Draft::new(b"CO").on(task),
+            _ => Draft::new(b"RE"),
+        };
+        let mut draft = match self.random.below(5) {
+            0 if draft.mark == *b"RE" => draft.first(self.random.pick(&ODD_TIMES)),
+            0 => draft,
+            _ => self.oddly_conditioned(draft),
+        };
+        match self.random.below(10) {
+            0 => draft.start_kind = self.random.pick(&[5, 6, 255]),
+            1 => draft.period = self.random.pick(&ODD_TIMES),
+            2 => draft.end_kind = self.random.pick(&[1, 2, 3]),
+            3 => draft.end = self.random.pick(&ODD_TIMES),
+            4 => draft.number = task,
+            5 => draft.priority = self.random.pick(&[1, 255]),
+            _ => {}
+        }
+        self.put(draft);
+    }
+
+    /// A start kind from 1 to 4 with an odd time, or with an interrupt that may not be declared.
+    fn oddly_conditioned(&mut self, draft: Draft) -> Draft {
+        let interrupts = u32::from(self.kernel.counts.interrupts);
+        let interrupt = self.random.between(0, interrupts) as u8;
+        let time = self.random.pick(&ODD_TIMES);
+        match self.random.below(4) {
+            0 => draft.at(time),
+            1 => draft.after(time),
+            2 => draft.when(interrupt),
+            _ => draft.when_after(interrupt, time),
+        }
+    }
+
+    /// A declared task, or the first that isn't.
+    fn nearly_any_task(&mut self) -> u8 {
+        self.random.between(0, u32::from(self.kernel.counts.tasks)) as u8
     }
 
     fn damage_field(&mut self, draft: &mut Draft) {

@@ -40,11 +40,12 @@ impl Maker {
 
     /// A call that can't be accepted yet, so that declarations may go on.
     fn too_early(&mut self) {
-        let draft = match self.random.below(5) {
+        let draft = match self.random.below(6) {
             0 => Draft::new(b"TE"),
             1 => Draft::new(b"CO"),
             2 => Draft::new(b"RE").first(1),
-            3 => Draft::new(b"TR").list(&[0]),
+            3 => Draft::new(b"RE").at(0),
+            4 => Draft::new(b"TR").list(&[0]),
             _ => Draft::new(b"EN"),
         };
         self.put(draft);

@@ -29,10 +29,11 @@ fn refused(draft: Draft, expected: u8) {
 fn used(mark: &[u8; 2]) -> Vec<usize> {
     match mark {
         b"DT" => vec![3],
-        b"DS" | b"DC" | b"RE" => (12..16).collect(),
+        b"DS" | b"DC" => (12..16).collect(),
+        b"RE" => vec![9, 12, 13, 14, 15],
         b"AC" => vec![2, 3, 9, 10, 11],
         b"TE" | b"SU" | b"PR" | b"TG" | b"EI" | b"XI" => vec![2],
-        b"CO" => vec![2, 3],
+        b"CO" => vec![2, 3, 9],
         b"RQ" | b"RL" | b"TR" | b"RS" | b"FR" | b"ET" | b"LV" => (4..9).collect(),
         _ => vec![],
     }
@@ -108,6 +109,84 @@ fn start_kinds() {
     refused(ended, 3);
     refused(r(b"AC").on(1).when(2), 5);
     refused(r(b"AC").on(1).when_after(2, 0), 5);
+}
+
+/// A well-formed CONTINUE or RESUME of kind 0 to 4, and the bytes past the mark that it uses.
+fn continuation(mark: &[u8; 2], kind: u8) -> (Draft, Vec<usize>) {
+    let draft = r(mark);
+    let (draft, times) = match kind {
+        0 if mark == b"RE" => (draft.first(1), vec![12, 13, 14, 15]),
+        0 => (draft, vec![]),
+        1 => (draft.at(1), vec![12, 13, 14, 15]),
+        2 => (draft.after(1), vec![12, 13, 14, 15]),
+        3 => (draft.when(0), vec![10]),
+        _ => (draft.when_after(0, 1), vec![10, 12, 13, 14, 15]),
+    };
+    let task = if mark == b"CO" { vec![2, 3] } else { vec![] };
+    (draft, [task, vec![9], times].concat())
+}
+
+#[test]
+fn continuations_use_what_their_kind_needs() {
+    for mark in [b"CO", b"RE"] {
+        for kind in 0..=4 {
+            let (draft, used) = continuation(mark, kind);
+            for place in 2..RECORD {
+                let mut record = draft.bytes();
+                record[place] |= 0x80;
+                let stray = Kernel::new().step(&record).number == 3;
+                let expected = place == 9 || !used.contains(&place);
+                assert_eq!(stray, expected, "{mark:?} kind {kind} byte {place}");
+            }
+        }
+    }
+}
+
+#[test]
+fn continuations_have_kinds_0_to_4() {
+    for mark in [b"CO", b"RE"] {
+        for kind in 5..=255 {
+            let mut draft = r(mark).on(0);
+            draft.start_kind = kind;
+            refused(draft, 3);
+        }
+        refused(r(mark).after(1).every(1), 3);
+        refused(r(mark).after(1).during(1), 3);
+        refused(r(mark).when(0).until(0), 3);
+        refused(r(mark).all(1), 3);
+    }
+    refused(r(b"RE").on(1).after(1), 3);
+    refused(r(b"RE").priority(1).after(1), 3);
+}
+
+#[test]
+fn continuations_name_what_is_declared() {
+    refused(r(b"CO").on(2).after(0), 5);
+    refused(r(b"CO").on(2).when(0), 5);
+    for mark in [b"CO", b"RE"] {
+        refused(r(mark).when(1), 0);
+        refused(r(mark).when(2), 5);
+        refused(r(mark).when_after(2, 0), 5);
+    }
+}
+
+#[test]
+fn continuations_have_times_by_their_kind() {
+    for mark in [b"CO", b"RE"] {
+        refused(r(mark).at(0), 0);
+        refused(r(mark).at(DAY - 1), 0);
+        refused(r(mark).at(DAY), 6);
+        for length in [1, LONGEST] {
+            refused(r(mark).after(length), 0);
+            refused(r(mark).when_after(0, length), 0);
+        }
+        for length in [0, LONGEST + 1] {
+            refused(r(mark).after(length), 6);
+            refused(r(mark).when_after(0, length), 6);
+        }
+    }
+    refused(r(b"RE").first(LONGEST), 0);
+    refused(r(b"RE").first(LONGEST + 1), 6);
 }
 
 #[test]

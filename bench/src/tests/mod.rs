@@ -1,5 +1,6 @@
 //! Scripts with the lines that a trace by hand gives.
 
+mod continuations;
 mod formats;
 mod marked;
 mod readings;

@@ -2,7 +2,7 @@
 
 use super::{after, r, semaphore, task};
 use crate::answer::Answer;
-use crate::kernel::{Kernel, List, Priority, State, Wait};
+use crate::kernel::{Continuation, End, Kernel, List, Origin, Priority, Schedule, State, Wait};
 use crate::limits::{DAY, LAST_INSTANT, LAST_TICK, LONGEST};
 
 fn kernel() -> Kernel {
@@ -15,6 +15,7 @@ fn kernel() -> Kernel {
         r(b"IT"),
         r(b"AC").on(0),
         r(b"AC").on(0).when_after(0, 5).every(3).during(9),
+        r(b"CO").on(0).when_after(0, 5),
     ])
 }
 
@@ -104,7 +105,6 @@ fn instants() {
 
 #[test]
 fn schedules() {
-    use crate::kernel::{End, Origin, Schedule};
     let with =
         |change: fn(&mut Schedule)| number_after(|k| change(k.tasks[0].schedule.as_mut().unwrap()));
     assert_eq!(with(|s| s.period = LONGEST + 1), 1);
@@ -116,4 +116,36 @@ fn schedules() {
     assert_eq!(with(|s| s.next = LAST_INSTANT + 1), 1);
     assert_eq!(with(|s| s.last = LAST_INSTANT + 1), 1);
     assert_eq!(with(|s| s.next = LAST_INSTANT), 2);
+}
+
+#[test]
+fn continuations() {
+    let with = |change: fn(&mut Continuation)| {
+        number_after(|k| change(k.tasks[0].continuation.as_mut().unwrap()))
+    };
+    assert_eq!(with(|c| c.priority = None), 2);
+    assert_eq!(with(|c| c.priority = Some(Priority::MAX)), 2);
+    assert_eq!(with(|c| c.by_resume = true), 2);
+    assert_eq!(with(|c| c.origin = Origin::Interrupt(0)), 2);
+    assert_eq!(with(|c| c.origin = Origin::Interrupt(1)), 1);
+    assert_eq!(with(|c| c.origin = Origin::InterruptAfter(0, 0)), 1);
+    assert_eq!(
+        with(|c| c.origin = Origin::InterruptAfter(0, LONGEST + 1)),
+        1
+    );
+    assert_eq!(with(|c| c.origin = Origin::InterruptAfter(1, 1)), 1);
+    assert_eq!(with(|c| c.next = LAST_INSTANT), 2);
+    assert_eq!(with(|c| c.next = LAST_INSTANT + 1), 1);
+}
+
+#[test]
+fn continuations_of_terminated_and_undeclared_tasks() {
+    let pending = |k: &mut Kernel, i: usize, interrupt: u8| {
+        k.tasks[i].continuation = k.tasks[0].continuation;
+        let continuation = k.tasks[i].continuation.as_mut().unwrap();
+        continuation.origin = Origin::Interrupt(interrupt);
+    };
+    assert_eq!(number_after(|k| pending(k, 1, 0)), 2);
+    assert_eq!(number_after(|k| pending(k, 1, 1)), 1);
+    assert_eq!(number_after(|k| pending(k, 2, 1)), 2);
 }

@@ -141,7 +141,7 @@ module _ (day : ℕ) (k : State) (h : Head) (l : List ℕ) (v : valid day k ≡ 
   waits-kept OneTask q a e =
       stays (h .number) (ltb-true _ _ (both (ltb (h .number) (k .counts .tasks)) _ (rw q at (past day k h l f .known)) .0)) (does OneTask (h .number) .task)
       (no-wait-named day (k .clock) (k .now) (h .mark) h (taskAt (k .tasks) (h .number)))
-  waits-kept TheRunner q a e = at-runner (λ i. Waits (does TheRunner i .task)) (λ i b. stays i b (does TheRunner i .task) (no-wait-runner (k .now) (h .mark) h (taskAt (k .tasks) i))) e
+  waits-kept TheRunner q a e = at-runner (λ i. Waits (does TheRunner i .task)) (λ i b. stays i b (does TheRunner i .task) (no-wait-runner day (k .clock) (k .now) (h .mark) h (taskAt (k .tasks) i))) e
   waits-kept (ListAsked w b) q a e = at-runner (λ i. Waits (does (ListAsked w b) i .task)) (asks-kept w b q) e
   waits-kept (ListGiven w) q a e = at-runner (λ i. Waits (does (ListGiven w) i .task)) (λ i b. stays i b (does (ListGiven w) i .task) (λ x. (refl, refl, refl))) e
   waits-kept AnInterrupt q a e = contra a refl

@@ -1,8 +1,8 @@
-// What ACTIVATE does to its task.
+// What ACTIVATE, CONTINUE and RESUME do to their task, at once or on a schedule.
 ghost use mathlib.Core.Path.{_≡_};
 ghost use Prim.Native.Nat.{_≤_};
-ghost use Rattle.calendar.specs.Limits.{day, lastInstant};
-ghost use Rattle.machine.specs.Activation.{endOf, scheduleOf, activateTurn};
+ghost use Rattle.calendar.specs.Limits.{day, lastInstant, mostInstant};
+ghost use Rattle.machine.specs.Activation.{endOf, alarmBy, scheduleOf, activateTurn, goOnTurn, resumeBy};
 use calendar::Duration;
 use calendar::End;
 use calendar::Instant;
@@ -11,7 +11,7 @@ use task::Alarm;
 use task::Schedule;
 use task::Task;
 use task::Turn;
-use task::turns::or_else;
+use task::continuations::or_else;
 
 fn end_of(endkind: u8, t: u32) -> End
     ensures { λ r. ⌜ r ≡ endOf endkind t ⌝ }
@@ -23,12 +23,20 @@ fn end_of(endkind: u8, t: u32) -> End
     }
 }
 
+// The alarm that a call at n sets.
+fn alarm_by(clock: u32, n: Instant, h: Head) -> Alarm
+    requires { ⌜ n .0 ≤ lastInstant ⌝ }
+    ensures { λ r. ⌜ (r ≡ alarmBy day clock n h) × (r .next .0 ≤ mostInstant) ⌝ }
+{
+    Alarm::of_start(h.kind, h.first, h.interrupt, clock, n)
+}
+
 // The schedule that an activation at n gives a task, with the priority p.
 fn schedule_of(clock: u32, n: Instant, h: Head, p: u8) -> Schedule
     requires { ⌜ n .0 ≤ lastInstant ⌝ }
     ensures { λ r. ⌜ r ≡ scheduleOf day clock n h p ⌝ }
 {
-    let alarm = Alarm::of_start(h.kind, h.first, h.interrupt, clock, n);
+    let alarm = alarm_by(clock, n, h);
     let end = end_of(h.endkind, h.endtime);
     Schedule::begin(alarm, end, h.period, p, clock)
 }
@@ -44,4 +52,26 @@ pub(crate) fn activate(t: Task, clock: u32, n: Instant, h: Head) -> Turn
     }
     let s = schedule_of(clock, n, h, p);
     t.plan(s, n)
+}
+
+// CONTINUE: kind 0 unholds the task; another kind replaces its continuation.
+pub(crate) fn go_on(t: Task, clock: u32, n: Instant, h: Head) -> Turn
+    requires { ⌜ n .0 ≤ lastInstant ⌝ }
+    ensures { λ r. ⌜ r ≡ goOnTurn day clock n h t ⌝ }
+{
+    if h.kind == 0 {
+        return t.go_on(h.priority);
+    }
+    t.go_on_later(alarm_by(clock, n, h), h.priority, false, n)
+}
+
+// RESUME: kind 0 delays the running task; another kind suspends it and replaces its continuation.
+pub(crate) fn resume(t: Task, clock: u32, n: Instant, h: Head) -> Turn
+    requires { ⌜ n .0 ≤ lastInstant ⌝ }
+    ensures { λ r. ⌜ r ≡ resumeBy day clock n h t ⌝ }
+{
+    if h.kind == 0 {
+        return t.delay(n.plus(Duration(h.first)));
+    }
+    t.rest(alarm_by(clock, n, h), n)
 }

@@ -11,12 +11,13 @@ use machine::Counts;
 use machine::MOST_INTERRUPTS;
 use machine::MOST_TASKS;
 use machine::State;
+use task::Alarm;
 use task::Hold;
 use task::Kept;
 use task::Schedule;
 use task::Task;
 
-// A task just declared: not alive, at its own priority, without a schedule.
+// A task just declared: not alive, at its own priority, without a schedule or a continuation.
 pub(crate) fn fresh_task(p: u8) -> Task
     ensures { λ r. ⌜ r ≡ freshTask p ⌝ }
 {
@@ -28,8 +29,11 @@ pub(crate) fn fresh_task(p: u8) -> Task
         wait: Wait::Nothing,
         len: 0,
         list: [0; 4],
+        given: 0,
+        resumed: false,
         hold: Hold::Unheld,
         schedule: Schedule::none(),
+        continuation: Alarm::none(),
     }
 }
 

@@ -15,7 +15,8 @@ ghost use Rattle.changes.specs.Inner.{Returnable};
 ghost use Rattle.task.specs.declared.Task.{Task};
 ghost use mathlib.Core.List.{List};
 use crate::activate::activate;
-use calendar::Duration;
+use crate::activate::go_on;
+use crate::activate::resume;
 use calendar::Instant;
 use layout::Head;
 use layout::Mark;
@@ -74,18 +75,18 @@ fn named_turn(t: Task, clock: u32, now: Instant, h: Head) -> Turn
         Mark::TE => t.end(),
         Mark::SU => t.suspend(),
         Mark::PR => t.prevent(),
-        _ => t.go_on(h.priority),
+        _ => go_on(t, clock, now, h),
     }
 }
 
 // The running task's turn at RE or EN.
-fn runner_turn(t: Task, now: Instant, h: Head) -> Turn
+fn runner_turn(t: Task, clock: u32, now: Instant, h: Head) -> Turn
     requires { ⌜ now .0 ≤ lastInstant ⌝ }
-    ensures { λ u. ⌜ u ≡ runnerTurn now (h .mark) h t ⌝ }
+    ensures { λ u. ⌜ u ≡ runnerTurn day clock now (h .mark) h t ⌝ }
 {
     let mark = h.mark;
     match mark {
-        Mark::RE => t.delay(now.plus(Duration(h.first))),
+        Mark::RE => resume(t, clock, now, h),
         _ => t.end(),
     }
 }
@@ -127,7 +128,7 @@ pub fn change_of(
     let n = h.len as usize;
     match sort {
         Sort::OneTask => by_turn(locks, named_turn(t, clock, now, h)),
-        Sort::TheRunner => by_turn(locks, runner_turn(t, now, h)),
+        Sort::TheRunner => by_turn(locks, runner_turn(t, clock, now, h)),
         Sort::ListAsked(w, waits) => asked(w, waits, h, list, t, locks),
         Sort::ListGiven(w) => by_locks(t, locks.move_all(Way::Give, w, n, list), false),
         Sort::Declaration => by_locks(t, locks, false),

@@ -42,9 +42,9 @@ pub data Method (a : Kernel) : Call → Reply → Type 0 where
   terminate : (i : ℕ) (r : Reply) → TE.Learnt tt (a, (i, tt)) r (a, (i, tt)) → Method a (terminateCall i) r
   suspend : (i : ℕ) (r : Reply) → SU.Learnt tt (a, (i, tt)) r (a, (i, tt)) → Method a (suspendCall i) r
   prevent : (i : ℕ) (r : Reply) → PR.Learnt tt (a, (i, tt)) r (a, (i, tt)) → Method a (preventCall i) r
-  continue-task : (i p : ℕ) (r : Reply) → CO.Learnt tt (a, (i, (p, tt))) r (a, (i, (p, tt))) → Method a (continueCall i p) r
+  continue-task : (i p : ℕ) (s : StartCondition) (r : Reply) → CO.Learnt tt (a, (i, (p, (s, tt)))) r (a, (i, (p, (s, tt)))) → Method a (continueCall i p s) r
   end : (r : Reply) → EN.Learnt tt (a, tt) r (a, tt) → Method a endCall r
-  resume : (d : ℕ) (r : Reply) → RE.Learnt tt (a, (d, tt)) r (a, (d, tt)) → Method a (resumeCall d) r
+  resume : (s : StartCondition) (r : Reply) → RE.Learnt tt (a, (s, tt)) r (a, (s, tt)) → Method a (resumeCall s) r
   request : (n : ℕ) (l : List ℕ) (r : Reply) → RQ.Learnt tt (a, (n, (l, tt))) r (a, (n, (l, tt))) → Method a (requestCall n l) r
   release : (n : ℕ) (l : List ℕ) (r : Reply) → RL.Learnt tt (a, (n, (l, tt))) r (a, (n, (l, tt))) → Method a (releaseCall n l) r
   try-request : (x : ℕ) (r : Reply) → TR.Learnt tt (a, (x, tt)) r (a, (x, tt)) → Method a (tryCall x) r

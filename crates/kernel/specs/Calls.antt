@@ -34,6 +34,26 @@ plainCall mark number priority len list first =
       list = list;
     }
 
+-- A call with a start condition: mark, task, priority, the condition's six fields, and no list.
+abbrev pub startCall : Mark → ℕ → ℕ → StartCondition → Call
+startCall mark task priority start =
+    record {
+      head =
+          record {
+            mark = mark;
+            number = task;
+            priority = priority;
+            len = 0;
+            kind = start .kind;
+            interrupt = start .interrupt;
+            endkind = start .endkind;
+            first = start .first;
+            period = start .period;
+            endtime = start .endtime;
+          };
+      list = noList;
+    }
+
 -- ---- declarations
 
 abbrev pub taskDeclaration : ℕ → Call
@@ -53,25 +73,8 @@ clockDeclaration timeOfDay = plainCall DC 0 0 0 noList timeOfDay
 
 -- ---- tasks
 
--- ACTIVATE has its start condition's six fields, and no list.
 abbrev pub activateCall : ℕ → ℕ → StartCondition → Call
-activateCall task priority start =
-    record {
-      head =
-          record {
-            mark = AC;
-            number = task;
-            priority = priority;
-            len = 0;
-            kind = start .kind;
-            interrupt = start .interrupt;
-            endkind = start .endkind;
-            first = start .first;
-            period = start .period;
-            endtime = start .endtime;
-          };
-      list = noList;
-    }
+activateCall task priority start = startCall AC task priority start
 
 abbrev pub terminateCall : ℕ → Call
 terminateCall task = plainCall TE task 0 0 noList 0
@@ -82,14 +85,14 @@ suspendCall task = plainCall SU task 0 0 noList 0
 abbrev pub preventCall : ℕ → Call
 preventCall task = plainCall PR task 0 0 noList 0
 
-abbrev pub continueCall : ℕ → ℕ → Call
-continueCall task priority = plainCall CO task priority 0 noList 0
+abbrev pub continueCall : ℕ → ℕ → StartCondition → Call
+continueCall task priority start = startCall CO task priority start
 
 abbrev pub endCall : Call
 endCall = plainCall EN 0 0 0 noList 0
 
-abbrev pub resumeCall : ℕ → Call
-resumeCall duration = plainCall RE 0 0 0 noList duration
+abbrev pub resumeCall : StartCondition → Call
+resumeCall start = startCall RE 0 0 start
 
 -- ---- semaphores and bolts
 

@@ -4,6 +4,7 @@ pub mod declarations;
 pub mod handling;
 pub mod locks;
 mod plain;
+mod starting;
 pub mod tasks;
 
 use machine::Answer;

@@ -8,8 +8,6 @@ use crate::Kernel;
 use crate::Reply;
 use crate::StartCondition;
 use crate::plain::NO_LIST;
-use layout::Call;
-use layout::Head;
 use layout::Mark;
 
 impl Kernel {
@@ -17,22 +15,7 @@ impl Kernel {
     pub fn activate(self, task: u8, priority: u8, start: StartCondition) -> Reply
         ensures { λ r. ⌜ r ≡ reply (carry day (self .state) (activateCall task priority start)) ⌝ }
     {
-        let head = Head {
-            mark: Mark::AC,
-            number: task,
-            priority,
-            len: 0,
-            kind: start.kind,
-            interrupt: start.interrupt,
-            endkind: start.endkind,
-            first: start.first,
-            period: start.period,
-            endtime: start.endtime,
-        };
-        self.carry(Call {
-            head,
-            list: NO_LIST,
-        })
+        self.starting(Mark::AC, task, priority, start)
     }
 
     pub fn terminate(self, task: u8) -> Reply
@@ -53,11 +36,11 @@ impl Kernel {
         self.plain(Mark::PR, task, 0, 0, NO_LIST, 0)
     }
 
-    // Priority 0: the current one.
-    pub fn continue_task(self, task: u8, priority: u8) -> Reply
-        ensures { λ r. ⌜ r ≡ reply (carry day (self .state) (continueCall task priority)) ⌝ }
+    // At once or by a start condition without a period. Priority 0: the one current then.
+    pub fn continue_task(self, task: u8, priority: u8, start: StartCondition) -> Reply
+        ensures { λ r. ⌜ r ≡ reply (carry day (self .state) (continueCall task priority start)) ⌝ }
     {
-        self.plain(Mark::CO, task, priority, 0, NO_LIST, 0)
+        self.starting(Mark::CO, task, priority, start)
     }
 
     // The running task ends.
@@ -67,10 +50,10 @@ impl Kernel {
         self.plain(Mark::EN, 0, 0, 0, NO_LIST, 0)
     }
 
-    // The running task is delayed.
-    pub fn resume(self, duration: u32) -> Reply
-        ensures { λ r. ⌜ r ≡ reply (carry day (self .state) (resumeCall duration)) ⌝ }
+    // The running task is delayed by the first time, at kind 0, or suspended until its start condition comes due.
+    pub fn resume(self, start: StartCondition) -> Reply
+        ensures { λ r. ⌜ r ≡ reply (carry day (self .state) (resumeCall start)) ⌝ }
     {
-        self.plain(Mark::RE, 0, 0, 0, NO_LIST, duration)
+        self.starting(Mark::RE, 0, 0, start)
     }
 }

@@ -8,7 +8,7 @@ use Rattle.layout.specs.declared.Mark.the-variants.{DT, DS, DB, IT, DC, 
 use Rattle.layout.specs.declared.Marked.{Marked}
 use Rattle.layout.specs.declared.Marked.the-variants.{Unknown, Known}
 use Rattle.layout.specs.declared.Form.{Form}
-use Rattle.layout.specs.declared.Form.the-variants.{Bare, Number, NumberPriority, DeclaredPriority, Preset, TimeOfDay, Delay, Activation, Numbers, OneNumber}
+use Rattle.layout.specs.declared.Form.the-variants.{Bare, Number, Continuation, DeclaredPriority, Preset, TimeOfDay, Resumption, Activation, Numbers, OneNumber}
 
 -- A mark's two ASCII letters as one number, the first in the high byte.
 abbrev pub code : Mark → ℕ
@@ -63,9 +63,9 @@ form AC = Activation
 form TE = Number
 form SU = Number
 form PR = Number
-form CO = NumberPriority
+form CO = Continuation
 form EN = Bare
-form RE = Delay
+form RE = Resumption
 form RQ = Numbers
 form RL = Numbers
 form TR = OneNumber

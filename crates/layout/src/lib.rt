@@ -40,11 +40,11 @@ pub enum Marked {
 pub enum Form {
     Bare,
     Number,
-    NumberPriority,
+    Continuation,
     DeclaredPriority,
     Preset,
     TimeOfDay,
-    Delay,
+    Resumption,
     Activation,
     Numbers,
     OneNumber,

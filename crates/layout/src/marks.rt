@@ -78,8 +78,8 @@ pub fn form_of(mark: Mark) -> Form
         Mark::DC => Form::TimeOfDay,
         Mark::AC => Form::Activation,
         Mark::TE | Mark::SU | Mark::PR | Mark::TG | Mark::EI | Mark::XI => Form::Number,
-        Mark::CO => Form::NumberPriority,
-        Mark::RE => Form::Delay,
+        Mark::CO => Form::Continuation,
+        Mark::RE => Form::Resumption,
         Mark::RQ | Mark::RL | Mark::RS | Mark::FR | Mark::ET | Mark::LV => Form::Numbers,
         Mark::TR => Form::OneNumber,
     }

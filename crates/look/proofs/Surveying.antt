@@ -9,7 +9,7 @@ use Rattle.calendar.specs.declared.Instant.{Instant}
 use Rattle.calendar.specs.declared.Moment.{Moment}
 use Rattle.calendar.specs.declared.Moment.the-variants.{Never}
 use Rattle.lock.proofs.Bools.{byBool}
-use Rattle.task.specs.Coming.{delayEnd, nextStart}
+use Rattle.task.specs.Coming.{delayEnd, nextOf}
 use Rattle.task.specs.declared.Task.{Task}
 use Rattle.machine.specs.State.{mostTasks, taskAt}
 use Rattle.machine.specs.NextEvent.{nextEvent}
@@ -56,7 +56,7 @@ module _ (day : ℕ) (k : State) where
   module _ {i soonest : ℕ} {lead : Lead} (p : Looked day k i soonest lead) where
     pub looked-next :
         i < k .counts .tasks → (next : ℕ) {after : Lead} → fitAt day k i ≡ true
-        → momentOf next ≡ sooner (k .now) (delayEnd (taskAt (k .tasks) i .hold)) (sooner (k .now) (nextStart (taskAt (k .tasks) i .schedule .alarm)) (momentOf soonest))
+        → momentOf next ≡ sooner (k .now) (delayEnd (taskAt (k .tasks) i .hold)) (sooner (k .now) (nextOf (taskAt (k .tasks) i .schedule .alarm)) (sooner (k .now) (nextOf (taskAt (k .tasks) i .continuation)) (momentOf soonest)))
         → Led (i + 1) (canRun (k .tasks)) (k .tasks) after
         → Looked day k (i + 1) next after
     looked-next less next fits c a =

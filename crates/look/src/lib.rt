@@ -13,12 +13,13 @@ use survey::check::are_counts_ok;
 use survey::check::are_priorities;
 use survey::check::is_at_ease;
 use survey::check::is_busy_ok;
+use survey::check::is_continuation_ok;
 use survey::check::is_kept_right;
 use survey::check::is_planned;
 use survey::check::is_schedule_ok;
 use survey::next::moment_of;
+use survey::next::sooner_due;
 use survey::next::sooner_end;
-use survey::next::sooner_start;
 use survey::scan::no_lead;
 
 // The survey of a kernel that fails the test.
@@ -52,6 +53,17 @@ pub fn survey(k: State) -> Survey
             return unfit();
         }
         let t = k.tasks[i];
+        let continuation = t.continuation;
+        let plan = continuation.plan;
+        if is_planned(plan) {
+            let t = k.tasks[i];
+            let continuation = t.continuation;
+            if !is_continuation_ok(counts.interrupts, continuation) {
+                return unfit();
+            }
+            soonest = sooner_due(soonest, now, continuation);
+        }
+        let t = k.tasks[i];
         let s = t.schedule;
         let alarm = s.alarm;
         let plan = alarm.plan;
@@ -62,7 +74,7 @@ pub fn survey(k: State) -> Survey
                 return unfit();
             }
             let alarm = s.alarm;
-            soonest = sooner_start(soonest, now, alarm);
+            soonest = sooner_due(soonest, now, alarm);
         }
         let t = k.tasks[i];
         let kept = t.kept;

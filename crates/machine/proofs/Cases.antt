@@ -17,7 +17,7 @@ use Rattle.record.specs.Reading.{refused, accepted, callWith, withMark, opened,
 use Rattle.layout.specs.declared.Marked.{Marked}
 use Rattle.layout.specs.declared.Marked.the-variants.{Unknown, Known}
 use Rattle.layout.specs.declared.Mark.{Mark}
-use Rattle.layout.specs.declared.Mark.the-variants.{DT, DS, DB, IT, DC, AC, TE, SU, CO, TI}
+use Rattle.layout.specs.declared.Mark.the-variants.{DT, DS, DB, IT, DC, AC, TE, SU, TI}
 use Rattle.record.specs.declared.Read.{Read}
 use Rattle.record.specs.declared.Read.the-variants.{Refused, Accepted}
 use Rattle.record.specs.declared.Reading.{Reading}
@@ -37,7 +37,7 @@ use Rattle.machine.specs.State.{withClock}
 use Rattle.machine.specs.Running.{runner, someone}
 use Rattle.machine.specs.Test.{valid}
 use Rattle.machine.specs.Sorts.{sortOf, declares, needsRunner, givenKind}
-use Rattle.machine.specs.Refusals.{declaredIn, roomFor, formalRefusal, admittedIf, admitted, unreturnable, refusalBy, stateRefusal}
+use Rattle.machine.specs.Refusals.{declaredIn, roomFor, formalRefusal, admittedIf, admitted, unreturnable, isContinue, refusalBy, stateRefusal}
 use Rattle.machine.specs.Calls.{addTask, addSemaphore, addBolt, addInterrupt, declaration, workOf}
 use Rattle.machine.specs.Step.{refuse, finish, declared, orRefuse, carryOut, settle, carryOn, stepRead, step}
 use Rattle.machine.proofs.Passed.{refusalOf}
@@ -96,9 +96,9 @@ late-state m c r t l n =
     let w = givenKind (sortOf m) in
     late-unless (not (needsRunner (sortOf m)) || someone r) 8 _ (omega arith)
     (late-unless (not (is m AC && eqb (c .head .kind) 0) || not (t .alive)) 9 _ (omega arith)
-    (late-unless (not (is m TE || is m SU || is m CO) || t .alive) 10 _ (omega arith)
+    (late-unless (not (is m TE || is m SU || isContinue m (c .head)) || t .alive) 10 _ (omega arith)
     (late-unless (not (is m SU) || not (suspended (t .hold))) 11 _ (omega arith)
-    (late-unless (not (is m CO) || not (unheld (t .hold))) 12 _ (omega arith)
+    (late-unless (not (isContinue m (c .head)) || not (unheld (t .hold))) 12 _ (omega arith)
     (late-unless (not (waiting w) || every (taken w l) (named c)) (unreturnable w) _ (late-unreturnable w)
     (late-last (not (is m TI) || ltb (n .0) lastInstant) 15 (omega arith)))))))
 

@@ -27,13 +27,13 @@ use Rattle.machine.specs.declared.Counts.{Counts}
 use Rattle.machine.specs.declared.State.{State}
 use Rattle.machine.specs.State.{taskAt, countOf, freshTask, withState, withCounts, withClock}
 use Rattle.machine.specs.Granting.{available, servable}
-use Rattle.machine.specs.Test.{isPriority, scheduleOk}
+use Rattle.machine.specs.Test.{isPriority, scheduleOk, continuationOk}
 use Rattle.machine.proofs.Granting.{could-alike}
 use Rattle.machine.specs.Calls.{addTask, addSemaphore, addBolt, addInterrupt}
 use Rattle.machine.proofs.Passed.{Passed, Fits, room-task, room-semaphore, room-bolt, room-interrupt}
 use Rattle.machine.proofs.Facts.{TaskOk, Bounded, bounded-of, StateOk}
 use Rattle.machine.proofs.Looks.{count-below}
-use Rattle.machine.proofs.Schedules.{schedule-more}
+use Rattle.machine.proofs.Schedules.{schedule-more, continuation-more}
 
 -- ---- with more declared
 
@@ -58,10 +58,11 @@ task-more day n m t q h =
       rests = h .rests;
       listed = λ e. let l = h .listed e in record { size = l .size; once = l .once; below = every-more (countOf n (t .wait)) (countOf m (t .wait)) (wanted t) (count-more n m q (t .wait)) (l .below) };
       schedule-ok = schedule-more day (n .interrupts) (m .interrupts) (t .schedule) (q .interrupts) (h .schedule-ok);
+      continuation-ok = continuation-more (n .interrupts) (m .interrupts) (t .continuation) (t .given) (q .interrupts) (h .continuation-ok);
     }
 
 pub fresh-ok : (day : ℕ) (n : Counts) (p : ℕ) → isPriority p ≡ true → TaskOk day n (freshTask p)
-unfolding freshTask scheduleOk
+unfolding freshTask scheduleOk continuationOk
 fresh-ok day n p q =
     record {
       declared-ok = q;
@@ -71,6 +72,7 @@ fresh-ok day n p q =
       rests = refl;
       listed = λ e. contra e refl;
       schedule-ok = refl;
+      continuation-ok = refl;
     }
 
 pub fresh-unwaiting : (p : ℕ) → waiting (freshTask p .wait) ≡ false

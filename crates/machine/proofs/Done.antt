@@ -11,10 +11,11 @@ use Rattle.calendar.specs.Limits.{longestDuration, lastInstant, isDuration}
 use Rattle.calendar.specs.Times.{duration, plus}
 use Rattle.calendar.specs.declared.Instant.{Instant}
 use Rattle.layout.specs.Marks.{is, form}
-use Rattle.record.specs.Refusals.{uses, cleanNames, startFormed, named, timed}
+use Rattle.record.specs.Refusals.{uses, cleanNames, cleanStart, ranged, startFormed, formedAs, named, timed}
 use Rattle.layout.specs.declared.Mark.{Mark}
 use Rattle.layout.specs.declared.Mark.the-variants.{AC, TE, SU, PR, CO, RE, TG, EI, TI}
-use Rattle.layout.specs.declared.Form.the-variants.{Activation}
+use Rattle.layout.specs.declared.Form.{Form}
+use Rattle.layout.specs.declared.Form.the-variants.{Activation, Continuation, Resumption}
 use Rattle.layout.proofs.MarksLaws.{is-mark}
 use Rattle.layout.specs.declared.Call.{Call}
 use Rattle.lock.specs.Locks.{waiting, every, taken, grantable, takeAll, giveAll}
@@ -35,14 +36,14 @@ use Rattle.machine.specs.Running.{runningOf, runner, someone}
 use Rattle.machine.specs.Granting.{couldBeGranted}
 use Rattle.machine.specs.Sorts.{sortOf, declaring, declares, askedKind, staying, givenKind, naming, runnerAt}
 use Rattle.machine.specs.Work.{Work, byTurn, changed, everyTurn}
-use Rattle.machine.specs.Refusals.{startDeclared, declaredBy}
+use Rattle.machine.specs.Refusals.{startDeclared, declaredBy, isContinue}
 use Rattle.machine.specs.Calls.{namedTurn, runnerTurn, asks, changeOf, trigger, interruptBy, tick, workBy, workOf}
 use Rattle.machine.specs.Invariants.{IsDay}
 use Rattle.machine.proofs.Below.{mostUrgent-at}
 use Rattle.machine.proofs.Facts.{Listed, TaskOk, StateOk}
-use Rattle.machine.proofs.Turns.{Good, good-end, good-prevent, good-suspend, good-continue, good-resume, good-tick, good-trigger, good-activate}
+use Rattle.machine.proofs.Turns.{Good, good-end, good-prevent, good-suspend, good-tick, good-trigger, good-activate, good-go-on, good-resume-by}
 use Rattle.machine.proofs.Passed.{Formal, formal-as, Passed, unrefused}
-use Rattle.machine.proofs.Sorts.{listing, other-mark, asked-waits, given-waits, tick-mark, list-mark, list-shape}
+use Rattle.machine.proofs.Sorts.{listing, other-mark, asked-waits, given-waits, continue-mark, tick-mark, list-mark, list-shape}
 use Rattle.machine.proofs.Works.{oneTurn, onlyLocks, locks-alone, enabled-alone}
 use Rattle.machine.proofs.Granting.{could-free}
 
@@ -113,24 +114,31 @@ module _ (day : ℕ) (isDay : IsDay day) (k : State) (h : StateOk day k) (c : Ca
   does-turn : (i : ℕ) (u : Turn) → i < k .counts .tasks → Good day (k .counts) false (taskAt (k .tasks) i) u → Does (plain false) (oneTurn k i u)
   does-turn i u l g = turned false i u l (λ e. contra e refl) g
 
+  -- What a form doesn't use of a start is zero.
+  clean : (f : Form) → formedAs f c ≡ true → cleanStart (uses f (c .head)) (c .head) ≡ true
+  clean f e =
+      let u = uses f (c .head) in
+      both (cleanStart u (c .head)) (ranged f (c .head)) (both (cleanNames u c) (cleanStart u (c .head) && ranged f (c .head)) e .1) .0
+
   -- ---- a task that is named
 
   good-named : (t : Task) → TaskOk day (k .counts) t → Formal day m (k .counts) (k .begun) c → startDeclared (k .counts) (c .head) ≡ true
-      → (not (is m TE || is m SU || is m CO) || t .alive) ≡ true
+      → (not (is m TE || is m SU || isContinue m (c .head)) || t .alive) ≡ true → sortOf m ≡ OneTask
       → Good day (k .counts) (is m PR) t (namedTurn day (k .clock) (k .now) m (c .head) t)
   unfolding namedTurn uses timed
-  good-named t o p s a =
+  good-named t o p s a one =
       let unprevented : (x : Mark) → is x PR ≡ false → is m x ≡ true → is m PR ≡ false = λ x z e. ap (λ (y : Mark). is y PR) (is-mark m x e) ∙ z in
       byBool (is m AC)
-      (λ e. let q = formal-as (is-mark m AC e) p in
+      (λ ac. let q = formal-as (is-mark m AC ac) p in
       let f = both (cleanNames (uses Activation (c .head)) c) (startFormed (c .head)) (q .formed) in
-      rw (e, unprevented AC refl e) (good-activate day (k .counts) isDay (k .clock) (k .now) (h .now-ok) (c .head) t byte (f .1) (q .timed) s o))
-      (λ e. rw e (byBool (is m TE)
-      (λ e. rw (e, unprevented TE refl e) (good-end day (k .counts) t (rw e at a) o))
-      (λ e. rw e (byBool (is m SU)
-      (λ e. rw (e, unprevented SU refl e) (good-suspend day (k .counts) t (rw (e, or-true) at a) o))
-      (λ e. rw e (byBool (is m PR) (λ e. rw e (good-prevent day (k .counts) t o))
-      (λ e. rw e (good-continue day (k .counts) (c .head .priority) t byte o))))))))
+      rw (ac, unprevented AC refl ac) (good-activate day (k .counts) isDay (k .clock) (k .now) (h .now-ok) (c .head) t byte (f .1) (q .timed) s o))
+      (λ ac. rw ac (byBool (is m TE)
+      (λ te. rw (te, unprevented TE refl te) (good-end day (k .counts) t (rw te at a) o))
+      (λ te. rw te (byBool (is m SU)
+      (λ su. rw (su, unprevented SU refl su) (good-suspend day (k .counts) t (rw (su, or-true) at a) o))
+      (λ su. rw su (byBool (is m PR) (λ pr. rw pr (good-prevent day (k .counts) t o))
+      (λ pr. let q = formal-as (is-mark m CO (continue-mark m one ac te su pr)) p in
+      rw pr (good-go-on day (k .counts) isDay (k .clock) (k .now) (h .now-ok) (c .head) t byte (clean Continuation (q .formed)) (q .timed) s o))))))))
 
   does-named : Passed day m k c → sortOf m ≡ OneTask → Does (roleOf OneTask (is m PR)) (workBy day OneTask k c)
   unfolding workBy changeOf declaredBy
@@ -139,31 +147,30 @@ module _ (day : ℕ) (isDay : IsDay day) (k : State) (h : StateOk day k) (c : Ca
       let l = ltb-true _ _ (a .0) in
       let u = unrefused m c (runner k) _ (k .locks) (k .now) (p .state) in
       turned (is m PR) (c .head .number) _ l (λ e. refl)
-      (good-named (taskAt (k .tasks) (c .head .number)) (h .tasks-ok (c .head .number) l) (p .formal) (a .1) (rw q at (u .lives)))
+      (good-named (taskAt (k .tasks) (c .head .number)) (h .tasks-ok (c .head .number) l) (p .formal) (a .1) (rw q at (u .lives)) q)
 
   -- ---- the running task
 
   good-runner : (t : Task) → t .alive ≡ true → TaskOk day (k .counts) t → Formal day m (k .counts) (k .begun) c
-      → Good day (k .counts) false t (runnerTurn (k .now) m (c .head) t)
-  unfolding runnerTurn timed
-  good-runner t a o p =
-      let n = h .now-ok in
+      → startDeclared (k .counts) (c .head) ≡ true
+      → Good day (k .counts) false t (runnerTurn day (k .clock) (k .now) m (c .head) t)
+  unfolding runnerTurn
+  good-runner t a o p s =
       byBool (is m RE)
-      (λ e. let d : isDuration (c .head .first) ≡ true = formal-as (is-mark m RE e) p .timed in
-      let l = leb-true (c .head .first) longestDuration (both (leb 1 (c .head .first)) _ d .1) in
-      rw e (good-resume day (k .counts) (plus (k .now) (duration (c .head .first))) t a (omega arith) o))
+      (λ e. let q = formal-as (is-mark m RE e) p in
+      rw e (good-resume-by day (k .counts) isDay (k .clock) (k .now) (h .now-ok) (c .head) t a (clean Resumption (q .formed)) (q .timed) s o))
       (λ e. rw e (good-end day (k .counts) t a o))
 
   does-runner : Passed day m k c → sortOf m ≡ TheRunner → Does (roleOf TheRunner false) (workBy day TheRunner k c)
-  unfolding workBy changeOf
+  unfolding workBy changeOf declaredBy
   does-runner p q = go (runner k) refl (rw q at (unrefused m c (runner k) _ (k .locks) (k .now) (p .state) .runs))
     where
       go : (r : Running) → runner k ≡ r → someone r ≡ true
-          → Does (plain false) (changed k (runnerAt r) (byTurn (k .locks) (runnerTurn (k .now) m (c .head) (taskAt (k .tasks) (runnerAt r)))))
+          → Does (plain false) (changed k (runnerAt r) (byTurn (k .locks) (runnerTurn day (k .clock) (k .now) m (c .head) (taskAt (k .tasks) (runnerAt r)))))
       go Idle e z = contra z refl
       go (Runs i) e z =
           let u = runs k i e in
-          does-turn i _ (u .0) (good-runner (taskAt (k .tasks) i) (u .1) (h .tasks-ok i (u .0)) (p .formal))
+          does-turn i _ (u .0) (good-runner (taskAt (k .tasks) i) (u .1) (h .tasks-ok i (u .0)) (p .formal) (unfold declaredBy in rw q at (p .formal .known)))
 
   -- ---- lists
 

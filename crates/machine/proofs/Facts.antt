@@ -22,7 +22,7 @@ use Rattle.machine.specs.declared.Counts.{Counts}
 use Rattle.machine.specs.declared.State.{State}
 use Rattle.machine.specs.State.{taskAt, countOf}
 use Rattle.machine.specs.Granting.{servable}
-use Rattle.machine.specs.Test.{between, isPriority, keptOk, holdOk, scheduleOk, waitOk, taskOk, countsOk, nobodyServable, valid}
+use Rattle.machine.specs.Test.{between, isPriority, keptOk, holdOk, scheduleOk, continuationOk, waitOk, taskOk, countsOk, nobodyServable, valid}
 use Rattle.machine.specs.Invariants.{Tables, Passes}
 use Rattle.machine.proofs.Below.{all-at, all-from}
 use Rattle.machine.proofs.Passed.{Fits, counts-fit, parts}
@@ -41,6 +41,7 @@ pub record TaskOk (day : ℕ) (n : Counts) (t : Task) : Type 0 where
   pub rests : restOk t ≡ true
   pub listed : waiting (t .wait) ≡ true → Listed n (t .wait) (t .len) (wanted t)
   pub schedule-ok : scheduleOk day (n .interrupts) (t .schedule) ≡ true
+  pub continuation-ok : continuationOk (n .interrupts) (t .continuation) (t .given) ≡ true
 
 abbrev pub Bounded : Counts → Locks → Type 0
 Bounded n r = (v : Wait) (x : ℕ) → x < countOf n v → level v r x ≤ mostValue
@@ -63,7 +64,7 @@ wait-test n t f =
 pub task-test : (day : ℕ) (n : Counts) (t : Task) → TaskOk day n t → taskOk day n t ≡ true
 unfolding taskOk
 task-test day n t h =
-    and-both (and-both (and-both (and-both (and-both (and-both (h .declared-ok) (h .current-ok)) (h .kept-ok)) (h .hold-ok)) (h .rests)) (wait-test n t (h .listed))) (h .schedule-ok)
+    and-both (and-both (and-both (and-both (and-both (and-both (and-both (h .declared-ok) (h .current-ok)) (h .kept-ok)) (h .hold-ok)) (h .rests)) (wait-test n t (h .listed))) (h .schedule-ok)) (h .continuation-ok)
 
 counts-test : (n : Counts) → Fits n → countsOk n ≡ true
 unfolding countsOk
@@ -97,7 +98,8 @@ wait-untest n t e w =
 pub task-untest : (day : ℕ) (n : Counts) (t : Task) → taskOk day n t ≡ true → TaskOk day n t
 unfolding taskOk
 task-untest day n t e =
-    let a = both _ (scheduleOk day (n .interrupts) (t .schedule)) e in
+    let z = both _ (continuationOk (n .interrupts) (t .continuation) (t .given)) e in
+    let a = both _ (scheduleOk day (n .interrupts) (t .schedule)) (z .0) in
     let b = both _ (waitOk n t) (a .0) in
     let c = both _ (restOk t) (b .0) in
     let d = both _ (holdOk (t .hold)) (c .0) in
@@ -111,6 +113,7 @@ task-untest day n t e =
       rests = c .1;
       listed = wait-untest n t (b .1);
       schedule-ok = a .1;
+      continuation-ok = z .1;
     }
 
 -- Values and readers that stay in their limits; a writer does anyway.

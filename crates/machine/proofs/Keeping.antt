@@ -49,6 +49,7 @@ wait-ok day n w len l t a q h =
       rests = rw a;
       listed = λ e. q;
       schedule-ok = h .schedule-ok;
+      continuation-ok = h .continuation-ok;
     }
 
 module _ (day : ℕ) (k : State) (h : StateOk day k) where

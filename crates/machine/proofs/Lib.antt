@@ -31,9 +31,14 @@ pub mod WorkPairs
 pub mod Beyond
 pub mod NextEvent
 pub mod Quiet
+pub mod Accepted
+pub mod Continuing
+pub mod Undisturbed
+pub mod Unholding
 -- Proofs of the marked cases.
 pub mod Computing
 pub mod Waits
 pub mod Evening
 pub mod Marked
 pub mod Slips
+pub mod Continued

@@ -11,7 +11,7 @@ use Rattle.layout.specs.Marks.{is, form}
 use Rattle.layout.specs.declared.Mark.{Mark}
 use Rattle.record.specs.Refusals.{mostValue, mostNumbers, formedAs, formed, named, listed, timed, unless, before, shape, times}
 use Rattle.record.specs.Lists.{distinct}
-use Rattle.layout.specs.declared.Mark.the-variants.{DT, DS, DB, IT, AC, TE, SU, CO, TI}
+use Rattle.layout.specs.declared.Mark.the-variants.{DT, DS, DB, IT, AC, TE, SU, TI}
 use Rattle.layout.specs.declared.Call.{Call}
 use Rattle.lock.specs.Locks.{mostLocks, waiting, every, taken, valueAt, boltAt}
 use Rattle.lock.specs.declared.Locks.{Locks}
@@ -25,10 +25,10 @@ use Rattle.machine.specs.declared.Counts.{Counts}
 use Rattle.machine.specs.declared.State.{State}
 use Rattle.machine.specs.declared.Running.{Running}
 use Rattle.machine.specs.State.{mostTasks, mostSemaphores, mostBolts, mostInterrupts, taskAt, countOf}
-use Rattle.machine.specs.Test.{between, isPriority, keptOk, holdOk, waitOk, scheduleOk, taskOk, allBelow, countsOk, nobodyServable, valid}
+use Rattle.machine.specs.Test.{between, isPriority, keptOk, holdOk, waitOk, scheduleOk, continuationOk, taskOk, allBelow, countsOk, nobodyServable, valid}
 use Rattle.machine.specs.Running.{someone}
 use Rattle.machine.specs.Sorts.{sortOf, declares, needsRunner, givenKind}
-use Rattle.machine.specs.Refusals.{declaredIn, roomFor, formalRefusal, unreturnable, refusalBy, stateRefusal}
+use Rattle.machine.specs.Refusals.{declaredIn, roomFor, formalRefusal, unreturnable, isContinue, refusalBy, stateRefusal}
 
 -- ---- a call or declaration
 
@@ -67,9 +67,9 @@ formal day n begun c e =
 pub record Unrefused (m : Mark) (c : Call) (r : Running) (t : Task) (l : Locks) (n : Instant) : Type 0 where
   pub runs : (not (needsRunner (sortOf m)) || someone r) ≡ true
   pub ended : (not (is m AC && eqb (c .head .kind) 0) || not (t .alive)) ≡ true
-  pub lives : (not (is m TE || is m SU || is m CO) || t .alive) ≡ true
+  pub lives : (not (is m TE || is m SU || isContinue m (c .head)) || t .alive) ≡ true
   pub unsuspended : (not (is m SU) || not (suspended (t .hold))) ≡ true
-  pub held : (not (is m CO) || not (unheld (t .hold))) ≡ true
+  pub held : (not (isContinue m (c .head)) || not (unheld (t .hold))) ≡ true
   pub returnable : (not (waiting (givenKind (sortOf m))) || every (taken (givenKind (sortOf m)) l) (named c)) ≡ true
   pub goes : (not (is m TI) || ltb (n .0) lastInstant) ≡ true
 
@@ -85,9 +85,9 @@ unrefused m c r t l n e =
     let w = givenKind (sortOf m) in
     let a = unless-passed (not (needsRunner (sortOf m)) || someone r) 7 _ e in
     let b = unless-passed (not (is m AC && eqb (c .head .kind) 0) || not (t .alive)) 8 _ (a .1) in
-    let d = unless-passed (not (is m TE || is m SU || is m CO) || t .alive) 9 _ (b .1) in
+    let d = unless-passed (not (is m TE || is m SU || isContinue m (c .head)) || t .alive) 9 _ (b .1) in
     let f = unless-passed (not (is m SU) || not (suspended (t .hold))) 10 _ (d .1) in
-    let g = unless-passed (not (is m CO) || not (unheld (t .hold))) 11 _ (f .1) in
+    let g = unless-passed (not (isContinue m (c .head)) || not (unheld (t .hold))) 11 _ (f .1) in
     let h = unreturnable-passed w (not (waiting w) || every (taken w l) (named c)) _ (g .1) in
     let i = unless-passed (not (is m TI) || ltb (n .0) lastInstant) 14 0 (h .1) in
     record { runs = a .0; ended = b .0; lives = d .0; unsuspended = f .0; held = g .0; returnable = h .0; goes = i .0 }
@@ -207,7 +207,8 @@ listed-of n t e w =
 pub listed-task : (day : ℕ) (n : Counts) (t : Task) → taskOk day n t ≡ true → Listed n t
 unfolding taskOk
 listed-task day n t e =
-    let a = both _ (scheduleOk day (n .interrupts) (t .schedule)) e in
+    let z = both _ (continuationOk (n .interrupts) (t .continuation) (t .given)) e in
+    let a = both _ (scheduleOk day (n .interrupts) (t .schedule)) (z .0) in
     listed-of n t (both (isPriority (t .declared) && isPriority (t .current) && keptOk (t .kept) && holdOk (t .hold) && restOk t) (waitOk n t) (a .0) .1)
 
 pub tested : (day : ℕ) (k : State) → valid day k ≡ true → Tested k

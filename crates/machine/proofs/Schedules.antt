@@ -20,7 +20,7 @@ use Rattle.task.specs.Alarms.{pending, listening, planned, comingAt, rearmed, s
 use Rattle.task.specs.Schedules.{withAlarm, advanced, advance, lastOf, begun, triggered}
 use Rattle.task.specs.declared.Alarm.{Alarm}
 use Rattle.task.specs.declared.Schedule.{Schedule}
-use Rattle.machine.specs.Test.{isPriority, isStored, endOk, momentOk, listenerOk, alarmOk, lastOk, termsOk, scheduleOk}
+use Rattle.machine.specs.Test.{mostPriority, isPriority, isStored, endOk, momentOk, listenerOk, alarmOk, lastOk, termsOk, scheduleOk, continuationOk}
 use Rattle.machine.specs.Activation.{endOf, scheduleOf}
 use Rattle.machine.specs.Invariants.{IsDay}
 
@@ -42,7 +42,7 @@ terms-parts day s e =
 fourth : (a b c d e f : Bool) → (a && b && c && d && e && f) ≡ true → d ≡ true
 fourth a b c d e f x = both (a && b && c) d (both (a && b && c && d) e (both (a && b && c && d && e) f x .0) .0) .1
 
-clean-first : (u : Used) (h : Head) → cleanStart u h ≡ true → orZero (u .first) (h .first) ≡ true
+pub clean-first : (u : Used) (h : Head) → cleanStart u h ≡ true → orZero (u .first) (h .first) ≡ true
 unfolding cleanStart
 clean-first u h e =
     fourth (orZero (u .kind) (h .kind)) (orZero (u .interrupt) (h .interrupt)) (orZero (u .endkind) (h .endkind)) (orZero (u .first) (h .first)) (orZero (u .period) (h .period)) (orZero (u .endtime) (h .endtime)) e
@@ -71,6 +71,10 @@ module _ (ni : ℕ) (a : Alarm) (ok : alarmOk ni a ≡ true) where
   setOff-soon n l q =
       let d = leb-true (a .delay .0) longestDuration (both (ltb (a .interrupt) ni) _ (listener q) .1) in
       record { heard = listener q; near = λ z. omega arith }
+
+  pub rearmed-ok : listening (a .plan) ≡ true → alarmOk ni (rearmed a) ≡ true
+  unfolding alarmOk
+  rearmed-ok q = and-both (listener q) refl
 
 -- With more interrupts declared.
 alarm-more : (n m : ℕ) (a : Alarm) → n ≤ m → alarmOk n a ≡ true → alarmOk m a ≡ true
@@ -151,7 +155,7 @@ module _ (day ni : ℕ) where
       })
   advanced-ok Never s h p =
       byBool (listening (s .alarm .plan))
-      (λ q. rw q (of-parts (withAlarm (rearmed (s .alarm)) s) (record { alarm = and-both (listener ni (s .alarm) (p .alarm) q) refl; last = refl; terms = p .terms })))
+      (λ q. rw q (of-parts (withAlarm (rearmed (s .alarm)) s) (record { alarm = rearmed-ok ni (s .alarm) (p .alarm) q; last = refl; terms = p .terms })))
       (λ q. rw q refl)
 
   pub advance-ok : (n : Instant) (s : Schedule) → n .0 ≤ lastInstant → pending (s .alarm .plan) ≡ true → Ok s → Ok (advance n s)
@@ -209,3 +213,23 @@ schedule-more day n m s h e =
     byBool (planned (s .alarm .plan))
     (λ q. let p = to-parts day n s q e in of-parts day m s (record { alarm = alarm-more n m (s .alarm) h (p .alarm); last = p .last; terms = p .terms }))
     (λ q. unfold scheduleOk in rw q)
+
+-- ---- continuations
+
+module _ (ni : ℕ) (a : Alarm) (p : ℕ) where
+  -- What the test says of a continuation that there is.
+  pub goes-parts : planned (a .plan) ≡ true → continuationOk ni a p ≡ true → (alarmOk ni a ≡ true) × (p ≤ mostPriority)
+  unfolding continuationOk
+  goes-parts q e =
+      let b = both (alarmOk ni a) (leb p mostPriority) (or-then (planned (a .plan)) _ e q) in
+      (b .0, leb-true p mostPriority (b .1))
+
+  pub goes-of : alarmOk ni a ≡ true → p ≤ mostPriority → continuationOk ni a p ≡ true
+  unfolding continuationOk
+  goes-of e l = then-or (planned (a .plan)) _ (λ q. and-both e (le-leb p mostPriority l))
+
+pub continuation-more : (n m : ℕ) (a : Alarm) (p : ℕ) → n ≤ m → continuationOk n a p ≡ true → continuationOk m a p ≡ true
+continuation-more n m a p h e =
+    byBool (planned (a .plan))
+    (λ q. let g = goes-parts n a p q e in goes-of m a p (alarm-more n m a h (g .0)) (g .1))
+    (λ q. unfold continuationOk in rw q)

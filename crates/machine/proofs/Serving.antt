@@ -123,6 +123,7 @@ over-ok day n t h =
           rw (e, r .0, r .2));
       listed = λ e. contra e refl;
       schedule-ok = h .schedule-ok;
+      continuation-ok = h .continuation-ok;
     }
 
 -- Tasks and locks on the way of serving.

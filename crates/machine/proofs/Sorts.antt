@@ -1,6 +1,6 @@
 -- What the sort of a mark tells of it.
 use mathlib.Core.Path.{_≡_, refl, sym, ap, _∙_}
-use mathlib.Core.Bool.{Bool, true, false, not, _&&_}
+use mathlib.Core.Bool.{Bool, true, false, not, _&&_, _||_}
 use mathlib.Core.List.{List, [], _∷_}
 use Prim.Native.Nat.{ℕ}
 use lib.Dec.{leb}
@@ -11,11 +11,11 @@ use Rattle.layout.specs.declared.Mark.{Mark}
 use Rattle.layout.specs.declared.Call.{Call}
 use Rattle.layout.specs.declared.Head.{Head}
 use Rattle.layout.specs.declared.Form.{Form}
-use Rattle.layout.specs.declared.Form.the-variants.{Bare, Number, NumberPriority, DeclaredPriority, Preset, TimeOfDay, Delay, Activation, Numbers, OneNumber}
+use Rattle.layout.specs.declared.Form.the-variants.{Bare, Number, Continuation, DeclaredPriority, Preset, TimeOfDay, Resumption, Activation, Numbers, OneNumber}
 use Rattle.layout.proofs.MarksLaws.{is-mark, allMarks, every-mark}
 use Rattle.record.specs.Lists.{allZero, names, distinct}
 use Rattle.record.specs.Refusals.{mostNumbers, uses, orZero, cleanNames, cleanStart, ranged, formedAs, named, listed}
-use Rattle.layout.specs.declared.Mark.the-variants.{TI}
+use Rattle.layout.specs.declared.Mark.the-variants.{AC, TE, SU, PR, CO, TI}
 use Rattle.lock.specs.Locks.{waiting}
 use Rattle.lock.specs.declared.Wait.{Wait}
 use Rattle.lock.proofs.Bools.{byBool, contra, both, and-both}
@@ -38,10 +38,10 @@ pub other-mark : (p : Sort → Bool) (m n : Mark) → p (sortOf n) ≡ true → 
 other-mark p m n a b =
     byBool (is m n) (λ e. contra (ap (λ (x : Mark). p (sortOf x)) (is-mark m n e) ∙ a) b) (λ e. e)
 
--- The kinds of lists are kinds of waits, and TI alone is about every task.
+-- The kinds of lists are kinds of waits, five marks name a task, and TI alone is about every task.
 kindOk : Sort → Mark → Bool
 kindOk Declaration m = true
-kindOk OneTask m = true
+kindOk OneTask m = is m AC || is m TE || is m SU || is m PR || is m CO
 kindOk TheRunner m = true
 kindOk (ListAsked w b) m = waiting w
 kindOk (ListGiven w) m = waiting w
@@ -59,6 +59,10 @@ asked-waits m {w} {b} q = kind-ok m (ListAsked w b) q
 pub given-waits : (m : Mark) {w : Wait} → sortOf m ≡ ListGiven w → waiting w ≡ true
 unfolding kindOk
 given-waits m {w} q = kind-ok m (ListGiven w) q
+
+pub continue-mark : (m : Mark) → sortOf m ≡ OneTask → is m AC ≡ false → is m TE ≡ false → is m SU ≡ false → is m PR ≡ false → is m CO ≡ true
+unfolding kindOk
+continue-mark m q a b c d = rw (a, b, c, d) at (kind-ok m OneTask q)
 
 pub tick-mark : (m : Mark) → sortOf m ≡ EveryTask → is m TI ≡ true
 unfolding kindOk
@@ -95,11 +99,11 @@ pub list-shape : (f : Form) (c : Call) → uses f (c .head) .list ≡ true → f
 unfolding uses ranged listed
 list-shape Bare c u f l = contra u refl
 list-shape Number c u f l = contra u refl
-list-shape NumberPriority c u f l = contra u refl
+list-shape Continuation c u f l = contra u refl
 list-shape DeclaredPriority c u f l = contra u refl
 list-shape Preset c u f l = contra u refl
 list-shape TimeOfDay c u f l = contra u refl
-list-shape Delay c u f l = contra u refl
+list-shape Resumption c u f l = contra u refl
 list-shape Activation c u f l = contra u refl
 list-shape Numbers c u f l =
     let a = both (cleanNames (uses Numbers (c .head)) c) (cleanStart (uses Numbers (c .head)) (c .head) && ranged Numbers (c .head)) f .1 in

@@ -10,6 +10,7 @@ use Rattle.calendar.specs.Limits.{day, lastInstant}
 use Rattle.calendar.specs.Times.{instant}
 use Rattle.lock.specs.Locks.{emptyBolt}
 use Rattle.lock.specs.declared.Wait.the-variants.{Nothing}
+use Rattle.task.specs.State.{noAlarm}
 use Rattle.task.specs.Coming.{comes}
 use Rattle.task.specs.declared.Hold.the-variants.{Unheld}
 use Rattle.task.specs.declared.Kept.{Kept}
@@ -62,8 +63,11 @@ only alive kept s =
       wait = Nothing;
       len = 0;
       list = 0 ∷ 0 ∷ 0 ∷ 0 ∷ [];
+      given = 0;
+      resumed = false;
       hold = Unheld;
       schedule = s;
+      continuation = noAlarm;
     }
 
 -- A kernel whose one declared task is t, after some accepted call.

@@ -26,7 +26,7 @@ use Rattle.task.specs.State.{noTask, waitFor}
 use Rattle.task.specs.Turns.{unmarked}
 use Rattle.task.specs.declared.Task.{Task}
 use Rattle.task.specs.declared.Turn.{Turn}
-use Rattle.task.proofs.Waits.{NoNewWait, no-wait-due, no-wait-end, no-wait-suspend, no-wait-prevent, no-wait-continue, no-wait-resume, no-wait-schedule, no-wait-tick, no-wait-trigger}
+use Rattle.task.proofs.Waits.{NoNewWait, no-wait-due, no-wait-end, no-wait-suspend, no-wait-prevent, no-wait-continue, no-wait-resume, no-wait-later, no-wait-rest, no-wait-schedule, no-wait-tick, no-wait-trigger}
 use Rattle.machine.specs.declared.Counts.{Counts}
 use Rattle.machine.specs.declared.State.{State}
 use Rattle.machine.specs.declared.Running.{Running}
@@ -41,7 +41,7 @@ use Rattle.machine.specs.Sorts.{needsRunner, runnerAt}
 use Rattle.machine.specs.Work.{Work, byLocks, changed, onlyEnabled, turns, everyTurn}
 use Rattle.machine.specs.Refusals.{listDeclared, declaredBy}
 use Rattle.machine.specs.Calls.{namedTurn, runnerTurn, asks, changeOf, trigger, interruptBy, tick, workBy}
-use Rattle.machine.specs.Activation.{activateTurn}
+use Rattle.machine.specs.Activation.{alarmBy, activateTurn, goOnTurn, resumeBy}
 use Rattle.machine.proofs.Urgency.{Below, runner-below}
 use Rattle.machine.proofs.Passed.{Listed, Fits}
 use Rattle.machine.proofs.Looks.{could-same, runner-same}
@@ -59,17 +59,27 @@ unfolding activateTurn
 no-wait-activate day clock n h t =
     byBool (eqb (h .kind) 0) (λ e. rw e (no-wait-due t _)) (λ e. rw e (no-wait-schedule t n _))
 
+no-wait-go-on : (day clock : ℕ) (n : Instant) (h : Head) (t : Task) → NoNewWait t (goOnTurn day clock n h t .task)
+unfolding goOnTurn
+no-wait-go-on day clock n h t =
+    byBool (eqb (h .kind) 0) (λ e. rw e (no-wait-continue t (h .priority))) (λ e. rw e (no-wait-later t n (alarmBy day clock n h) (h .priority) false))
+
+no-wait-resume-by : (day clock : ℕ) (n : Instant) (h : Head) (t : Task) → NoNewWait t (resumeBy day clock n h t .task)
+unfolding resumeBy
+no-wait-resume-by day clock n h t =
+    byBool (eqb (h .kind) 0) (λ e. rw e (no-wait-resume t _)) (λ e. rw e (no-wait-rest t n (alarmBy day clock n h)))
+
 pub no-wait-named : (day clock : ℕ) (n : Instant) (m : Mark) (h : Head) (t : Task) → NoNewWait t (namedTurn day clock n m h t .task)
 unfolding namedTurn
 no-wait-named day clock n m h t =
     byBool (bears m AC) (λ e. rw e (no-wait-activate day clock n h t))
     (λ e. rw e (byBool (bears m TE) (λ e. rw e (no-wait-end t))
     (λ e. rw e (byBool (bears m SU) (λ e. rw e (no-wait-suspend t))
-    (λ e. rw e (byBool (bears m PR) (λ e. rw e (no-wait-prevent t)) (λ e. rw e (no-wait-continue t (h .priority)))))))))
+    (λ e. rw e (byBool (bears m PR) (λ e. rw e (no-wait-prevent t)) (λ e. rw e (no-wait-go-on day clock n h t))))))))
 
-pub no-wait-runner : (n : Instant) (m : Mark) (h : Head) (t : Task) → NoNewWait t (runnerTurn n m h t .task)
+pub no-wait-runner : (day clock : ℕ) (n : Instant) (m : Mark) (h : Head) (t : Task) → NoNewWait t (runnerTurn day clock n m h t .task)
 unfolding runnerTurn
-no-wait-runner n m h t = byBool (bears m RE) (λ e. rw e (no-wait-resume t _)) (λ e. rw e (no-wait-end t))
+no-wait-runner day clock n m h t = byBool (bears m RE) (λ e. rw e (no-wait-resume-by day clock n h t)) (λ e. rw e (no-wait-end t))
 
 module _ (k : State) (ts : List Task) (r : Locks) (is : List Bool) (f : Fits (k .counts)) (h : Pair (k .counts) (k .tasks) ts (k .locks) r)
     (ints : Like false mostInterrupts (k .counts .interrupts) (k .enabled) is) where
@@ -221,8 +231,8 @@ module _ (k : State) (ts : List Task) (r : Locks) (is : List Bool) (f : Fits (k 
       turn-pair (namedTurn day (k .clock) (k .now) (c .head .mark) (c .head)) (no-wait-named day (k .clock) (k .now) (c .head .mark) (c .head)) (c .head .number)
       (ltb-true _ _ (both (ltb (c .head .number) (n .tasks)) _ e .0))
   work-pair day c TheRunner e a =
-      runner-pair (λ z i. oneTurn z i (runnerTurn (k .now) (c .head .mark) (c .head) (taskAt (z .tasks) i)))
-      (turn-pair (runnerTurn (k .now) (c .head .mark) (c .head)) (no-wait-runner (k .now) (c .head .mark) (c .head))) a
+      runner-pair (λ z i. oneTurn z i (runnerTurn day (k .clock) (k .now) (c .head .mark) (c .head) (taskAt (z .tasks) i)))
+      (turn-pair (runnerTurn day (k .clock) (k .now) (c .head .mark) (c .head)) (no-wait-runner day (k .clock) (k .now) (c .head .mark) (c .head))) a
   work-pair day c (ListAsked w b) e a =
       runner-pair (λ z i. changed z i (asks (n .tasks) (z .tasks) w b c (taskAt (z .tasks) i) (z .locks))) (ask-pair w b c e) a
   work-pair day c (ListGiven w) e a =

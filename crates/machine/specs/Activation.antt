@@ -1,15 +1,17 @@
--- What ACTIVATE does to its task (document 01, "Start kinds").
-use mathlib.Core.Bool.{cond}
+-- What ACTIVATE, CONTINUE and RESUME do to their task, at once or on a schedule (document 01, "Start kinds"; request 1).
+use mathlib.Core.Bool.{false, cond}
 use Prim.Native.Nat.{ℕ, zero, suc}
 use lib.Dec.{eqb}
-use Rattle.calendar.specs.Times.{duration}
+use Rattle.calendar.specs.Times.{duration, plus}
 use Rattle.calendar.specs.declared.Instant.{Instant}
 use Rattle.calendar.specs.declared.End.{End}
 use Rattle.calendar.specs.declared.End.the-variants.{Open, Until, During}
 use Rattle.layout.specs.declared.Head.{Head}
 use Rattle.task.specs.Alarms.{alarmOf}
 use Rattle.task.specs.Schedules.{begun}
-use Rattle.task.specs.Turns.{dueTurn, scheduleTurn, orElse}
+use Rattle.task.specs.Continuations.{orElse}
+use Rattle.task.specs.Turns.{dueTurn, scheduleTurn, continueTurn, resumeTurn, laterTurn, restTurn}
+use Rattle.task.specs.declared.Alarm.{Alarm}
 use Rattle.task.specs.declared.Schedule.{Schedule}
 use Rattle.task.specs.declared.Task.{Task}
 use Rattle.task.specs.declared.Turn.{Turn}
@@ -20,13 +22,24 @@ endOf (suc zero) t = Until t
 endOf (suc (suc n)) t = During (duration t)
 
 module _ (day clock : ℕ) (n : Instant) where
+  -- The alarm that a call at n sets.
+  abbrev pub alarmBy : Head → Alarm
+  alarmBy h = alarmOf day clock n (h .kind) (h .first) (h .interrupt)
+
   -- The schedule that an activation at n gives a task, with the priority p.
   unfoldable pub scheduleOf : Head → ℕ → Schedule
-  scheduleOf h p =
-      begun day clock (alarmOf day clock n (h .kind) (h .first) (h .interrupt)) (endOf (h .endkind) (h .endtime)) (h .period) p
+  scheduleOf h p = begun day clock (alarmBy h) (endOf (h .endkind) (h .endtime)) (h .period) p
 
   -- Kind 0 is due for the task; another kind replaces its schedule. Priority 0 is the declared one.
   unfoldable pub activateTurn : Head → Task → Turn
   activateTurn h t =
       let p = orElse (h .priority) (t .declared) in
       cond (eqb (h .kind) 0) (dueTurn p t) (scheduleTurn n (scheduleOf h p) t)
+
+  -- CONTINUE: kind 0 unholds the task; another kind replaces its continuation. Priority 0 is the one current then.
+  unfoldable pub goOnTurn : Head → Task → Turn
+  goOnTurn h t = cond (eqb (h .kind) 0) (continueTurn (h .priority) t) (laterTurn n (alarmBy h) (h .priority) false t)
+
+  -- RESUME: kind 0 delays the running task; another kind suspends it and replaces its continuation.
+  unfoldable pub resumeBy : Head → Task → Turn
+  resumeBy h t = cond (eqb (h .kind) 0) (resumeTurn (plus n (duration (h .first))) t) (restTurn n (alarmBy h) t)

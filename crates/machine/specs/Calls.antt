@@ -16,7 +16,7 @@ use Rattle.lock.specs.Locks.{emptyBolt, withValue, withBolt, takeAll, giveAll}
 use Rattle.lock.specs.declared.Locks.{Locks}
 use Rattle.lock.specs.declared.Wait.{Wait}
 use Rattle.task.specs.State.{waitFor}
-use Rattle.task.specs.Turns.{endTurn, preventTurn, suspendTurn, continueTurn, resumeTurn, tickTurn, triggerTurn}
+use Rattle.task.specs.Turns.{endTurn, preventTurn, suspendTurn, tickTurn, triggerTurn}
 use Rattle.task.specs.declared.Task.{Task}
 use Rattle.task.specs.declared.Turn.{Turn}
 use Rattle.machine.specs.declared.State.{State}
@@ -25,7 +25,7 @@ use Rattle.machine.specs.declared.Sort.{Sort}
 use Rattle.machine.specs.declared.Sort.the-variants.{Declaration, OneTask, TheRunner, ListAsked, ListGiven, AnInterrupt, EveryTask}
 use Rattle.machine.specs.State.{taskAt, enabledAt, freshTask, withState, withCounts, withClock}
 use Rattle.machine.specs.Sorts.{sortOf, placeOf}
-use Rattle.machine.specs.Activation.{activateTurn}
+use Rattle.machine.specs.Activation.{activateTurn, goOnTurn, resumeBy}
 use Rattle.machine.specs.Running.{runner}
 use Rattle.machine.specs.Granting.{couldBeGranted}
 use Rattle.machine.specs.Work.{Work, byTurn, byLocks, changed, onlyEnabled, everyTurn}
@@ -77,11 +77,11 @@ module _ (day clock : ℕ) (n : Instant) where
   namedTurn m h t =
       cond (is m AC) (activateTurn day clock n h t)
       (cond (is m TE) (endTurn t)
-      (cond (is m SU) (suspendTurn t) (cond (is m PR) (preventTurn t) (continueTurn (h .priority) t))))
+      (cond (is m SU) (suspendTurn t) (cond (is m PR) (preventTurn t) (goOnTurn day clock n h t))))
 
--- EN and RE: the running task's turn at n.
-unfoldable pub runnerTurn : Instant → Mark → Head → Task → Turn
-runnerTurn n m h t = cond (is m RE) (resumeTurn (plus n (duration (h .first))) t) (endTurn t)
+  -- EN and RE: the running task's turn.
+  unfoldable pub runnerTurn : Mark → Head → Task → Turn
+  runnerTurn m h t = cond (is m RE) (resumeBy day clock n h t) (endTurn t)
 
 module _ (count : ℕ) (ts : List Task) where
   -- The running task t asks for a list: it is granted whole, or the task waits; a TRY doesn't wait.
@@ -94,7 +94,7 @@ module _ (count : ℕ) (ts : List Task) where
   unfoldable pub changeOf : ℕ → Sort → Call → ℕ → Instant → Task → Locks → Change
   changeOf day Declaration c clock n t l = byLocks t l false
   changeOf day OneTask c clock n t l = byTurn l (namedTurn day clock n (c .head .mark) (c .head) t)
-  changeOf day TheRunner c clock n t l = byTurn l (runnerTurn n (c .head .mark) (c .head) t)
+  changeOf day TheRunner c clock n t l = byTurn l (runnerTurn day clock n (c .head .mark) (c .head) t)
   changeOf day (ListAsked w waits) c clock n t l = asks w waits c t l
   changeOf day (ListGiven w) c clock n t l = byLocks t (giveAll w l (named c)) false
   changeOf day AnInterrupt c clock n t l = byLocks t l false

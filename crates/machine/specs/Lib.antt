@@ -21,6 +21,8 @@ pub mod Invariants
 pub mod Beyond
 pub mod Scripts
 pub mod Quiet
--- What it answers: document 01's marked cases and slips.
+pub mod Continuing
+-- What it answers: document 01's marked cases and slips, and continuations.
 pub mod Marked
 pub mod Slips
+pub mod Continued

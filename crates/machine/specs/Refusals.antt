@@ -44,7 +44,7 @@ startDeclared n h = not (onInterrupt (h .kind)) || ltb (h .interrupt) (n .interr
 unfoldable pub declaredBy : Sort → Counts → Call → Bool
 declaredBy Declaration n c = true
 declaredBy OneTask n c = ltb (c .head .number) (n .tasks) && startDeclared n (c .head)
-declaredBy TheRunner n c = true
+declaredBy TheRunner n c = startDeclared n (c .head)
 declaredBy (ListAsked w b) n c = listDeclared n w c
 declaredBy (ListGiven w) n c = listDeclared n w c
 declaredBy AnInterrupt n c = ltb (c .head .number) (n .interrupts)
@@ -91,15 +91,19 @@ unreturnable Request = 13
 unreturnable Reserve = 14
 unreturnable Enter = 14
 
+-- CONTINUE at once. One on a schedule finds its task in any state.
+abbrev pub isContinue : Mark → Head → Bool
+isContinue m h = is m CO && eqb (h .kind) 0
+
 -- 8 to 15, or 0, with the running task, the task that the call is about, the locks and the present instant.
 unfoldable pub refusalBy : Mark → Call → Running → Task → Locks → Instant → ℕ
 refusalBy m c r t l n =
     let w = givenKind (sortOf m) in
     unless (not (needsRunner (sortOf m)) || someone r) 8
     (unless (not (is m AC && eqb (c .head .kind) 0) || not (t .alive)) 9
-    (unless (not (is m TE || is m SU || is m CO) || t .alive) 10
+    (unless (not (is m TE || is m SU || isContinue m (c .head)) || t .alive) 10
     (unless (not (is m SU) || not (suspended (t .hold))) 11
-    (unless (not (is m CO) || not (unheld (t .hold))) 12
+    (unless (not (isContinue m (c .head)) || not (unheld (t .hold))) 12
     (unless (not (waiting w) || every (taken w l) (named c)) (unreturnable w)
     (unless (not (is m TI) || ltb (n .0) lastInstant) 15 0))))))
 

@@ -5,7 +5,7 @@ use lib.ListN.{length, replicate}
 use Rattle.calendar.specs.Limits.{hour}
 use Rattle.layout.specs.Fields.{bytesOf}
 use Rattle.layout.specs.declared.Mark.{Mark}
-use Rattle.layout.specs.declared.Mark.the-variants.{DT, DS, IT, DC, AC, TE, RE, RQ, RL, TR, TG, EI, TI}
+use Rattle.layout.specs.declared.Mark.the-variants.{DT, DS, IT, DC, AC, TE, SU, PR, CO, RE, RQ, RL, TR, TG, EI, TI}
 
 -- n times the same. It is shut, so that a row of a million records is never written out.
 unfoldable pub row {ℓ} : {A : Type ℓ} → ℕ → A → List A
@@ -58,6 +58,12 @@ activate i = plain AC i 0 [] 0
 abbrev pub terminate : ℕ → List ℕ
 terminate i = plain TE i 0 [] 0
 
+abbrev pub suspend : ℕ → List ℕ
+suspend i = plain SU i 0 [] 0
+
+abbrev pub prevent : ℕ → List ℕ
+prevent i = plain PR i 0 [] 0
+
 abbrev pub resumeAfter : ℕ → List ℕ
 resumeAfter d = plain RE 0 0 [] d
 
@@ -79,18 +85,18 @@ trigger i = plain TG i 0 [] 0
 abbrev pub oneTick : List ℕ
 oneTick = plain TI 0 0 [] 0
 
--- ---- ACTIVATE with a start
+-- ---- with a start
 
--- Task, start kind, interrupt, end kind, first time, period and end time.
-abbrev pub activation : ℕ → ℕ → ℕ → ℕ → ℕ → ℕ → ℕ → List ℕ
-activation i k n e f p t =
+-- Task, priority, start kind, interrupt, end kind, first time, period and end time; the rest is zero.
+abbrev pub starting : Mark → ℕ → ℕ → ℕ → ℕ → ℕ → ℕ → ℕ → ℕ → List ℕ
+starting m i q k n e f p t =
     bytesOf
     (record {
       head =
           record {
-            mark = AC;
+            mark = m;
             number = i;
-            priority = 0;
+            priority = q;
             len = 0;
             kind = k;
             interrupt = n;
@@ -101,6 +107,10 @@ activation i k n e f p t =
           };
       list = [];
     })
+
+-- ACTIVATE: task, start kind, interrupt, end kind, first time, period and end time.
+abbrev pub activation : ℕ → ℕ → ℕ → ℕ → ℕ → ℕ → ℕ → List ℕ
+activation i k n e f p t = starting AC i 0 k n e f p t
 
 infix 20 AT_ACTIVATE_ AT_ALL_UNTIL_ACTIVATE_ AFTER_ACTIVATE_ ALL_DURING_ACTIVATE_ WHEN_AFTER_ACTIVATE_
 abbrev pub AT_ACTIVATE_ : ℕ → ℕ → List ℕ
@@ -117,3 +127,40 @@ ALL p DURING d ACTIVATE i = activation i 5 0 2 0 p d
 
 abbrev pub WHEN_AFTER_ACTIVATE_ : ℕ → ℕ → ℕ → List ℕ
 WHEN n AFTER d ACTIVATE i = activation i 4 n 0 d 0 0
+
+-- CONTINUE: task, priority, start kind, interrupt and first time. Priority 0 is the one current then.
+abbrev pub continuing : ℕ → ℕ → ℕ → ℕ → ℕ → List ℕ
+continuing i p k n f = starting CO i p k n 0 f 0 0
+
+infix 20 CONTINUE_PRIO_ AT_CONTINUE_PRIO_ AFTER_CONTINUE_PRIO_ WHEN_CONTINUE_PRIO_ WHEN_AFTER_CONTINUE_PRIO_
+abbrev pub CONTINUE_PRIO_ : ℕ → ℕ → List ℕ
+CONTINUE i PRIO p = continuing i p 0 0 0
+
+abbrev pub AT_CONTINUE_PRIO_ : ℕ → ℕ → ℕ → List ℕ
+AT t CONTINUE i PRIO p = continuing i p 1 0 t
+
+abbrev pub AFTER_CONTINUE_PRIO_ : ℕ → ℕ → ℕ → List ℕ
+AFTER d CONTINUE i PRIO p = continuing i p 2 0 d
+
+abbrev pub WHEN_CONTINUE_PRIO_ : ℕ → ℕ → ℕ → List ℕ
+WHEN n CONTINUE i PRIO p = continuing i p 3 n 0
+
+abbrev pub WHEN_AFTER_CONTINUE_PRIO_ : ℕ → ℕ → ℕ → ℕ → List ℕ
+WHEN n AFTER d CONTINUE i PRIO p = continuing i p 4 n d
+
+-- RESUME: start kind, interrupt and first time.
+abbrev pub resuming : ℕ → ℕ → ℕ → List ℕ
+resuming k n f = starting RE 0 0 k n 0 f 0 0
+
+infix 20 AT_RESUME AFTER_RESUME WHEN_RESUME WHEN_AFTER_RESUME
+abbrev pub AT_RESUME : ℕ → List ℕ
+AT t RESUME = resuming 1 0 t
+
+abbrev pub AFTER_RESUME : ℕ → List ℕ
+AFTER d RESUME = resuming 2 0 d
+
+abbrev pub WHEN_RESUME : ℕ → List ℕ
+WHEN n RESUME = resuming 3 n 0
+
+abbrev pub WHEN_AFTER_RESUME : ℕ → ℕ → List ℕ
+WHEN n AFTER d RESUME = resuming 4 n d

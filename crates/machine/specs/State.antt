@@ -9,7 +9,7 @@ use Rattle.lock.specs.Locks.{mostLocks, emptyBolt}
 use Rattle.lock.specs.declared.Wait.{Wait}
 use Rattle.lock.specs.declared.Wait.the-variants.{Nothing, Request, Reserve, Enter}
 use Rattle.lock.specs.declared.Locks.{Locks}
-use Rattle.task.specs.State.{noTask, noSchedule}
+use Rattle.task.specs.State.{noTask, noAlarm, noSchedule}
 use Rattle.task.specs.declared.Hold.the-variants.{Unheld}
 use Rattle.task.specs.declared.Kept.the-variants.{Empty}
 use Rattle.task.specs.declared.Task.{Task}
@@ -58,8 +58,11 @@ freshTask p =
       wait = Nothing;
       len = 0;
       list = 0 ∷ 0 ∷ 0 ∷ 0 ∷ [];
+      given = 0;
+      resumed = false;
       hold = Unheld;
       schedule = noSchedule;
+      continuation = noAlarm;
     }
 
 -- A place of the table of tasks in which none is declared.

@@ -30,9 +30,11 @@ use Rattle.machine.specs.Granting.{servable}
 abbrev pub between : ℕ → ℕ → ℕ → Bool
 between a b n = leb a n && leb n b
 
--- A priority is 1 to 255.
+abbrev pub mostPriority : ℕ
+mostPriority = 255
+
 abbrev pub isPriority : ℕ → Bool
-isPriority p = between 1 255 p
+isPriority p = between 1 mostPriority p
 
 abbrev pub isStored : Instant → Bool
 isStored n = leb (n .0) mostInstant
@@ -76,6 +78,10 @@ termsOk day s = isPriority (s .priority) && isPeriod (s .period) && endOk day (s
 unfoldable pub scheduleOk : ℕ → ℕ → Schedule → Bool
 scheduleOk day ni s = not (planned (s .alarm .plan)) || (alarmOk ni (s .alarm) && lastOk s && termsOk day s)
 
+-- A continuation: its alarm, and the priority that it gives, which can be 0.
+unfoldable pub continuationOk : ℕ → Alarm → ℕ → Bool
+continuationOk ni a p = not (planned (a .plan)) || (alarmOk ni a && leb p mostPriority)
+
 -- A wait's list names one to four numbers, none twice, all declared.
 abbrev pub waitOk : Counts → Task → Bool
 waitOk n t =
@@ -91,6 +97,7 @@ taskOk day n t =
     && restOk t
     && waitOk n t
     && scheduleOk day (n .interrupts) (t .schedule)
+    && continuationOk (n .interrupts) (t .continuation) (t .given)
 
 -- ---- the kernel
 

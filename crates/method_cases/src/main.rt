@@ -1,5 +1,6 @@
 // Calls the methods as a program would, and prints their lines. stdout has the lines that document 01 gives.
 ghost use mathlib.Core.Path.{_≡_};
+use calendar::Duration;
 use calendar::End;
 use calendar::Instant;
 use calendar::Moment;
@@ -9,6 +10,8 @@ use kernel::StartCondition;
 use lines::line_at;
 use machine::Answer;
 use serving::ends::plain;
+use task::Alarm;
+use task::Plan;
 use task::Schedule;
 use task::Task;
 
@@ -36,29 +39,15 @@ fn show_running(kernel: Kernel) {
     print_line(plain(0, running));
 }
 
-// A start of a kind on interrupt 0, once.
-fn start_of(kind: u8) -> StartCondition
-    ensures { λ r. ⌜ r ≡ record { kind = kind; interrupt = 0; endkind = 0; first = 0; period = 0; endtime = 0 } ⌝ }
+// A start of a kind with its first time, on interrupt 0, once.
+fn start(kind: u8, first: u32) -> StartCondition
+    ensures { λ r. ⌜ r ≡ record { kind = kind; interrupt = 0; endkind = 0; first = first; period = 0; endtime = 0 } ⌝ }
 {
     StartCondition {
         kind,
         interrupt: 0,
         endkind: 0,
-        first: 0,
-        period: 0,
-        endtime: 0,
-    }
-}
-
-// A start after 1 ms, once.
-fn after_one() -> StartCondition
-    ensures { λ r. ⌜ r ≡ record { kind = 2; interrupt = 0; endkind = 0; first = 1; period = 0; endtime = 0 } ⌝ }
-{
-    StartCondition {
-        kind: 2,
-        interrupt: 0,
-        endkind: 0,
-        first: 1,
+        first,
         period: 0,
         endtime: 0,
     }
@@ -71,9 +60,9 @@ fn locks() {
     kernel = show(kernel.declare_task(3));
     kernel = show(kernel.declare_semaphore(1));
     kernel = show(kernel.declare_bolt());
-    kernel = show(kernel.activate(0, 0, start_of(0)));
+    kernel = show(kernel.activate(0, 0, start(0, 0)));
     kernel = show(kernel.request(1, [0; 4]));
-    kernel = show(kernel.activate(1, 0, start_of(0)));
+    kernel = show(kernel.activate(1, 0, start(0, 0)));
     kernel = show(kernel.try_request(0));
     kernel = show(kernel.request(1, [0; 4]));
     kernel = show(kernel.release(1, [0; 4]));
@@ -89,11 +78,11 @@ fn holds() {
     let mut kernel = Kernel::fresh();
     kernel = show(kernel.declare_task(5));
     kernel = show(kernel.declare_task(3));
-    kernel = show(kernel.activate(0, 0, start_of(0)));
-    kernel = show(kernel.activate(1, 0, start_of(0)));
+    kernel = show(kernel.activate(0, 0, start(0, 0)));
+    kernel = show(kernel.activate(1, 0, start(0, 0)));
     kernel = show(kernel.suspend(1));
-    kernel = show(kernel.continue_task(1, 7));
-    kernel = show(kernel.resume(2));
+    kernel = show(kernel.continue_task(1, 7, start(0, 0)));
+    kernel = show(kernel.resume(start(0, 2)));
     kernel = show(kernel.tick());
     kernel = show(kernel.tick());
     kernel = show(kernel.end());
@@ -108,7 +97,7 @@ fn starts() {
     kernel = show(kernel.declare_task(5));
     kernel = show(kernel.declare_interrupt());
     kernel = show(kernel.declare_clock(43200000));
-    kernel = show(kernel.activate(0, 0, start_of(3)));
+    kernel = show(kernel.activate(0, 0, start(3, 0)));
     kernel = show(kernel.trigger(0));
     kernel = show(kernel.enable(0));
     kernel = show(kernel.trigger(0));
@@ -119,6 +108,26 @@ fn starts() {
     show(kernel.prevent(0));
 }
 
+// CONTINUE and RESUME on a schedule: WHEN, AFTER, AT the present time; and those that are refused.
+fn continuations() {
+    let mut kernel = Kernel::fresh();
+    kernel = show(kernel.declare_task(5));
+    kernel = show(kernel.declare_task(3));
+    kernel = show(kernel.declare_interrupt());
+    kernel = show(kernel.activate(0, 0, start(0, 0)));
+    kernel = show(kernel.activate(1, 0, start(0, 0)));
+    kernel = show(kernel.resume(start(3, 0)));
+    kernel = show(kernel.suspend(1));
+    kernel = show(kernel.enable(0));
+    kernel = show(kernel.trigger(0));
+    kernel = show(kernel.suspend(0));
+    kernel = show(kernel.continue_task(0, 1, start(2, 1)));
+    kernel = show(kernel.tick());
+    kernel = show(kernel.continue_task(0, 0, start(5, 0)));
+    kernel = show(kernel.resume(start(1, 1)));
+    show(kernel.continue_task(0, 0, start(0, 0)));
+}
+
 // The last instant, reached by writing it into the kernel.
 fn last_instant() {
     let mut kernel = Kernel::fresh();
@@ -126,7 +135,7 @@ fn last_instant() {
     let near = Instant(1099511627775);
     let mut k = kernel.state;
     k.now = near;
-    kernel = show(Kernel { state: k }.activate(0, 0, start_of(0)));
+    kernel = show(Kernel { state: k }.activate(0, 0, start(0, 0)));
     kernel = show(kernel.tick());
     kernel = show(kernel.tick());
     kernel = show(kernel.terminate(0));
@@ -137,7 +146,7 @@ fn last_instant() {
 fn beyond_limits() {
     let mut kernel = Kernel::fresh();
     kernel = show(kernel.declare_task(5));
-    kernel = show(kernel.activate(0, 0, start_of(0)));
+    kernel = show(kernel.activate(0, 0, start(0, 0)));
     let mut k = kernel.state;
     k.clock = 86400000;
     kernel = show(Kernel { state: k }.tick());
@@ -153,8 +162,8 @@ fn odd_schedule() {
     let mut kernel = Kernel::fresh();
     kernel = show(kernel.declare_task(5));
     kernel = show(kernel.declare_task(6));
-    kernel = show(kernel.activate(1, 0, start_of(0)));
-    kernel = show(kernel.activate(0, 0, after_one()));
+    kernel = show(kernel.activate(1, 0, start(0, 0)));
+    kernel = show(kernel.activate(0, 0, start(2, 1)));
     let mut k = kernel.state;
     let t = k.tasks[0];
     let s = t.schedule;
@@ -176,8 +185,8 @@ fn stored_ends() {
     let mut kernel = Kernel::fresh();
     kernel = show(kernel.declare_task(5));
     kernel = show(kernel.declare_interrupt());
-    kernel = show(kernel.activate(0, 0, start_of(0)));
-    kernel = show(kernel.activate(0, 0, start_of(3)));
+    kernel = show(kernel.activate(0, 0, start(0, 0)));
+    kernel = show(kernel.activate(0, 0, start(3, 0)));
     let mut k = kernel.state;
     let mut t = k.tasks[0];
     let mut s = t.schedule;
@@ -188,7 +197,7 @@ fn stored_ends() {
         ..t
     };
     kernel = show(Kernel { state: k }.tick());
-    kernel = show(kernel.activate(0, 0, after_one()));
+    kernel = show(kernel.activate(0, 0, start(2, 1)));
     k = kernel.state;
     t = k.tasks[0];
     s = t.schedule;
@@ -202,6 +211,44 @@ fn stored_ends() {
     show_running(kernel);
 }
 
+// An alarm of a plan: its interrupt, delay and next due.
+fn alarm(plan: Plan, interrupt: u8, delay: u32, next: u64) -> Alarm
+    ensures { λ r. ⌜ r ≡ record { plan = plan; interrupt = interrupt; delay = record { 0 = delay }; next = record { 0 = next } } ⌝ }
+{
+    Alarm {
+        plan,
+        interrupt,
+        delay: Duration(delay),
+        next: Instant(next),
+    }
+}
+
+// The kernel with another continuation of task 0.
+fn continuing(kernel: Kernel, continuation: Alarm) -> Kernel
+    ensures { λ r. ⌜ r .state .now ≡ kernel .state .now ⌝ }
+{
+    let mut k = kernel.state;
+    let t = k.tasks[0];
+    k.tasks[0] = Task { continuation, ..t };
+    Kernel { state: k }
+}
+
+// A continuation on an interrupt that isn't declared, one with a delay that is too long, and one that is due beyond the
+// last stored instant. A priority 0 passes the test, and what pends at the present instant never comes.
+fn odd_continuations() {
+    let mut kernel = Kernel::fresh();
+    kernel = show(kernel.declare_task(5));
+    kernel = show(kernel.declare_interrupt());
+    kernel = show(kernel.activate(0, 0, start(0, 0)));
+    kernel = show(kernel.suspend(0));
+    kernel = show(continuing(kernel, alarm(Plan::Armed, 1, 0, 0)).enable(0));
+    kernel = show(continuing(kernel, alarm(Plan::Armed, 0, 1000000001, 0)).enable(0));
+    kernel = show(continuing(kernel, alarm(Plan::Clock, 0, 0, 4398046511105)).enable(0));
+    kernel = show(continuing(kernel, alarm(Plan::Triggered, 0, 0, 0)).enable(0));
+    kernel = show(kernel.tick());
+    show(kernel.trigger(0));
+}
+
 fn main() {
     locks();
     holds();
@@ -210,4 +257,6 @@ fn main() {
     beyond_limits();
     odd_schedule();
     stored_ends();
+    continuations();
+    odd_continuations();
 }

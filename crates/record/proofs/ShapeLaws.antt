@@ -15,12 +15,12 @@ use Rattle.layout.specs.declared.Mark.{Mark}
 use Rattle.layout.specs.declared.Head.{Head}
 use Rattle.layout.specs.declared.Call.{Call}
 use Rattle.layout.specs.declared.Form.{Form}
-use Rattle.layout.specs.declared.Form.the-variants.{Bare, Number, NumberPriority, DeclaredPriority, Preset, TimeOfDay, Delay, Activation, Numbers, OneNumber}
+use Rattle.layout.specs.declared.Form.the-variants.{Bare, Number, Continuation, DeclaredPriority, Preset, TimeOfDay, Resumption, Activation, Numbers, OneNumber}
 use Rattle.layout.specs.Marks.{form}
 use Rattle.layout.specs.Fields.{recordLength, byte, word, headOf, listOf, callOf}
 use Rattle.record.specs.Lists.{allZero, stretch}
 use Rattle.record.specs.Reading.{callWith}
-use Rattle.record.specs.Refusals.{mostNumbers, Used, plain, start, startFormed, orZero, cleanNames, cleanStart, ranged, uses, formedAs, formed, listed}
+use Rattle.record.specs.Refusals.{mostNumbers, lastPlainKind, Used, plain, start, going, startFormed, goingFormed, orZero, cleanNames, cleanStart, ranged, uses, formedAs, formed, listed}
 use Rattle.record.proofs.Tests.{both}
 use Rattle.layout.proofs.Form as FormT
 
@@ -102,10 +102,6 @@ module _ (m : Mark) (s l : List ℕ) (h : Head) (are : FieldsOf m s h l) where
   unfolding zeroRun
   with-number r = rw (around 2 3 refl refl r, plain-bytes true false false r) (simp (and-assoc, and-true))
 
-  pub with-both : (r : Bool) → Around 2 4 r ≡ Plain true true false r
-  unfolding zeroRun
-  with-both r = rw (around 2 4 refl refl r, plain-bytes true true false r) (simp (and-assoc, and-true))
-
   pub with-priority : (r : Bool) → Around 3 4 r ≡ Plain false true false r
   unfolding zeroRun
   with-priority r = rw (around 3 4 refl refl r, plain-bytes false true false r) (simp (and-assoc, and-true))
@@ -117,9 +113,20 @@ module _ (m : Mark) (s l : List ℕ) (h : Head) (are : FieldsOf m s h l) where
   start-names : (u : Used) (r : Bool) → u .number ≡ true → u .priority ≡ true → u .list ≡ false → (allZero (stretch s 4 9) && r) ≡ (cleanNames u (callWith h l) && r)
   start-names u r n p e = rw (are .1 .0, are .1 .1, names-free m s u e, zeros-from 4 9 refl, n, p)
 
-  -- A start without a list.
+  no-names : (u : Used) (r : Bool) → u .number ≡ false → u .priority ≡ false → u .list ≡ false → (allZero (stretch s 2 9) && r) ≡ (cleanNames u (callWith h l) && r)
+  unfolding zeroRun
+  no-names u r n p e = rw (are .1 .0, are .1 .1, names-free m s u e, zeros-from 2 9 refl, n, p) (simp and-assoc)
+
+  -- A start without a list: an ACTIVATE's, a CONTINUE's and a RESUME's.
   pub with-start : (allZero (stretch s 4 9) && startFormed h) ≡ (cleanNames (start (h .kind) (h .endkind)) (callWith h l) && startFormed h)
   with-start = start-names (start (h .kind) (h .endkind)) (startFormed h) refl refl refl
+
+  pub with-going : (f : Bool) → (allZero (stretch s 4 9) && goingFormed f h) ≡ (cleanNames (going true f (h .kind)) (callWith h l) && goingFormed f h)
+  with-going f = start-names (going true f (h .kind)) (goingFormed f h) refl refl refl
+
+  pub unnamed-going : (f : Bool) → (allZero (stretch s 2 9) && goingFormed f h) ≡ (cleanNames (going false f (h .kind)) (callWith h l) && (cleanStart (going false f (h .kind)) h && leb (h .kind) lastPlainKind))
+  unfolding cleanStart
+  unnamed-going f = no-names (going false f (h .kind)) (goingFormed f h) refl refl refl
 
   -- A list without a start.
   pub with-list : (leb (h .len) mostNumbers && (allZero (drop (h .len) l) && (allZero (stretch s 2 4) && allZero (stretch s 9 recordLength)))) ≡ (cleanNames (plain false false true false) (callWith h l) && (cleanStart (plain false false true false) h && leb (h .len) mostNumbers))
@@ -149,11 +156,11 @@ module _ (c : Call) where
   unfolding uses ranged
   short Bare t = free-short _ refl (both _ _ t .0)
   short Number t = free-short _ refl (both _ _ t .0)
-  short NumberPriority t = free-short _ refl (both _ _ t .0)
+  short Continuation t = free-short _ refl (both _ _ t .0)
   short DeclaredPriority t = free-short _ refl (both _ _ t .0)
   short Preset t = free-short _ refl (both _ _ t .0)
   short TimeOfDay t = free-short _ refl (both _ _ t .0)
-  short Delay t = free-short _ refl (both _ _ t .0)
+  short Resumption t = free-short _ refl (both _ _ t .0)
   short Activation t = free-short _ refl (both _ _ t .0)
   short Numbers t = list-short t
   short OneNumber t = list-short t
@@ -167,11 +174,11 @@ module _ (c : Call) where
   unfolding listed
   listed-else Bare k = refl
   listed-else Number k = refl
-  listed-else NumberPriority k = refl
+  listed-else Continuation k = refl
   listed-else DeclaredPriority k = refl
   listed-else Preset k = refl
   listed-else TimeOfDay k = refl
-  listed-else Delay k = refl
+  listed-else Resumption k = refl
   listed-else Activation k = refl
   listed-else Numbers k = absurd (miss listless 8 tt k)
   listed-else OneNumber k = absurd (miss listless 9 tt k)

@@ -9,7 +9,7 @@ use Rattle.calendar.specs.Limits.{isTimeOfDay, isDuration, isPeriod}
 use Rattle.layout.specs.declared.Head.{Head}
 use Rattle.layout.specs.declared.Call.{Call}
 use Rattle.layout.specs.declared.Form.{Form}
-use Rattle.layout.specs.declared.Form.the-variants.{Bare, Number, NumberPriority, DeclaredPriority, Preset, TimeOfDay, Delay, Activation, Numbers, OneNumber}
+use Rattle.layout.specs.declared.Form.the-variants.{Bare, Number, Continuation, DeclaredPriority, Preset, TimeOfDay, Resumption, Activation, Numbers, OneNumber}
 use Rattle.layout.specs.Marks.{form}
 use Rattle.record.specs.Lists.{allZero, distinct}
 
@@ -24,6 +24,10 @@ mostNumbers = 4
 -- Start kinds: 0 none, 1 AT, 2 AFTER, 3 WHEN, 4 WHEN AFTER, 5 ALL. End kinds: 0 none, 1 UNTIL, 2 DURING.
 abbrev pub lastKind : ℕ
 lastKind = 5
+
+-- The last start kind that needs no period; ALL alone is no continuation.
+abbrev pub lastPlainKind : ℕ
+lastPlainKind = 4
 
 abbrev pub lastEndKind : ℕ
 lastEndKind = 2
@@ -88,14 +92,29 @@ start kind endkind =
       endtime = ltb 0 endkind;
     }
 
+-- CONTINUE and RESUME: number and priority, then the first time, used or not, and a start kind.
+abbrev pub going : Bool → Bool → ℕ → Used
+going n f kind =
+    record {
+      number = n;
+      priority = n;
+      list = false;
+      kind = true;
+      interrupt = onInterrupt kind;
+      endkind = false;
+      first = f;
+      period = false;
+      endtime = false;
+    }
+
 unfoldable pub uses : Form → Head → Used
 uses Bare h = plain false false false false
 uses Number h = plain true false false false
-uses NumberPriority h = plain true true false false
+uses Continuation h = going true (atTime (h .kind) || afterDuration (h .kind)) (h .kind)
 uses DeclaredPriority h = plain false true false false
 uses Preset h = plain false false false true
 uses TimeOfDay h = plain false false false true
-uses Delay h = plain false false false true
+uses Resumption h = going false (eqb (h .kind) 0 || (atTime (h .kind) || afterDuration (h .kind))) (h .kind)
 uses Activation h = start (h .kind) (h .endkind)
 uses Numbers h = plain false false true false
 uses OneNumber h = plain false false true false
@@ -126,11 +145,11 @@ cleanStart u h =
 unfoldable pub ranged : Form → Head → Bool
 ranged Bare h = true
 ranged Number h = true
-ranged NumberPriority h = true
+ranged Continuation h = leb (h .kind) lastPlainKind
 ranged DeclaredPriority h = leb 1 (h .priority)
 ranged Preset h = leb (h .first) mostValue
 ranged TimeOfDay h = true
-ranged Delay h = true
+ranged Resumption h = leb (h .kind) lastPlainKind
 ranged Activation h = leb (h .kind) lastKind && leb (h .endkind) lastEndKind
 ranged Numbers h = leb (h .len) mostNumbers
 ranged OneNumber h = leb (h .len) mostNumbers
@@ -138,6 +157,10 @@ ranged OneNumber h = leb (h .len) mostNumbers
 -- The start of an activation passes refusal 3.
 abbrev pub startFormed : Head → Bool
 startFormed h = cleanStart (start (h .kind) (h .endkind)) h && ranged Activation h
+
+-- The start of a CONTINUE or RESUME passes refusal 3, with a first time used or not.
+abbrev pub goingFormed : Bool → Head → Bool
+goingFormed f h = cleanStart (going true f (h .kind)) h && leb (h .kind) lastPlainKind
 
 abbrev pub formedAs : Form → Call → Bool
 formedAs f c = cleanNames (uses f (c .head)) c && (cleanStart (uses f (c .head)) (c .head) && ranged f (c .head))
@@ -155,11 +178,11 @@ named c = take (c .head .len) (c .list)
 unfoldable pub listed : Form → Call → Bool
 listed Bare c = true
 listed Number c = true
-listed NumberPriority c = true
+listed Continuation c = true
 listed DeclaredPriority c = true
 listed Preset c = true
 listed TimeOfDay c = true
-listed Delay c = true
+listed Resumption c = true
 listed Activation c = true
 listed Numbers c = leb 1 (c .head .len) && distinct (named c)
 listed OneNumber c = eqb (c .head .len) 1
@@ -176,6 +199,10 @@ unfoldable pub firstTimed : ℕ → ℕ → ℕ → Bool
 firstTimed day kind t =
     (not (atTime kind) || isTimeOfDay day t) && (not (afterDuration kind) || isDuration t)
 
+-- A RESUME's first time: a duration in kind 0, else that of its start.
+unfoldable pub resumeTimed : ℕ → ℕ → ℕ → Bool
+resumeTimed day kind t = (scheduled kind || isDuration t) && firstTimed day kind t
+
 -- A period is given where one is needed.
 abbrev pub givenIf : Bool → ℕ → Bool
 givenIf needed period = not needed || ltb 0 period
@@ -191,11 +218,11 @@ startTimed day h =
 unfoldable pub timed : ℕ → Form → Head → Bool
 timed day Bare h = true
 timed day Number h = true
-timed day NumberPriority h = true
+timed day Continuation h = firstTimed day (h .kind) (h .first)
 timed day DeclaredPriority h = true
 timed day Preset h = true
 timed day TimeOfDay h = isTimeOfDay day (h .first)
-timed day Delay h = isDuration (h .first)
+timed day Resumption h = resumeTimed day (h .kind) (h .first)
 timed day Activation h = startTimed day h
 timed day Numbers h = true
 timed day OneNumber h = true

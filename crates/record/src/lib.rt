@@ -13,6 +13,9 @@ pub const MOST_NUMBERS: u8 = 4;
 
 pub const LAST_KIND: u8 = 5;
 
+// The last start kind that needs no period.
+pub const LAST_PLAIN_KIND: u8 = 4;
+
 pub const LAST_END_KIND: u8 = 2;
 
 use layout::Bytes;

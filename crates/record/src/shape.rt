@@ -7,11 +7,12 @@ ghost use lib.Dec.{leb};
 ghost use lib.ListN.{length, drop};
 ghost use Rattle.layout.specs.Fields.{recordLength, headOf, listOf};
 ghost use Rattle.record.specs.Lists.{allZero, stretch};
-ghost use Rattle.record.specs.Refusals.{mostNumbers, orZero, startFormed, formed, listed, shape};
+ghost use Rattle.record.specs.Refusals.{mostNumbers, orZero, startFormed, goingFormed, formed, listed, shape};
 ghost use Rattle.layout.specs.Marks.{form};
 ghost use Rattle.record.specs.Reading.{callWith};
 use crate::LAST_END_KIND;
 use crate::LAST_KIND;
+use crate::LAST_PLAIN_KIND;
 use crate::MOST_NUMBERS;
 use crate::MOST_VALUE;
 use crate::kinds::has_first;
@@ -64,6 +65,18 @@ fn is_start_formed(h: Head) -> bool
         & ((h.kind <= LAST_KIND) & (h.endkind <= LAST_END_KIND))
 }
 
+// Whether the kind of a CONTINUE or RESUME is in range, and the fields zero that it doesn't use.
+fn is_going_formed(h: Head, first: bool) -> bool
+    ensures { λ r. ⌜ r ≡ goingFormed first h ⌝ }
+{
+    used_or_zero(is_on_interrupt(h.kind), h.interrupt as u32)
+        & (h.endkind == 0)
+        & used_or_zero(first, h.first)
+        & (h.period == 0)
+        & (h.endtime == 0)
+        & (h.kind <= LAST_PLAIN_KIND)
+}
+
 // Whether the record passes refusal 3.
 pub(crate) fn is_formed(s: &[u8], h: Head, list: Numbers) -> bool
     requires { ⌜ length (now s) ≡ recordLength ⌝ }
@@ -76,11 +89,11 @@ pub(crate) fn is_formed(s: &[u8], h: Head, list: Numbers) -> bool
     match f {
         Form::Bare => zero_around(s, 2, 2),
         Form::Number => zero_around(s, 2, 3),
-        Form::NumberPriority => zero_around(s, 2, 4),
+        Form::Continuation => zeros(&s[4..9]) & is_going_formed(h, has_first(h.kind)),
         Form::DeclaredPriority => (1 <= h.priority) & zero_around(s, 3, 4),
         Form::Preset => (h.first <= MOST_VALUE) & zero_around(s, 12, 16),
         Form::TimeOfDay => zero_around(s, 12, 16),
-        Form::Delay => zero_around(s, 12, 16),
+        Form::Resumption => zeros(&s[2..9]) & is_going_formed(h, (h.kind == 0) | has_first(h.kind)),
         Form::Activation => zeros(&s[4..9]) & is_start_formed(h),
         Form::Numbers => is_list_formed(s, h.len, list),
         Form::OneNumber => is_list_formed(s, h.len, list),

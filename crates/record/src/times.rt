@@ -2,7 +2,7 @@
 ghost use mathlib.Core.Path.{_≡_};
 ghost use Rattle.calendar.specs.Limits.{day};
 ghost use Rattle.layout.specs.Marks.{form};
-ghost use Rattle.record.specs.Refusals.{endTimed, firstTimed, givenIf, startTimed, timed, times};
+ghost use Rattle.record.specs.Refusals.{endTimed, firstTimed, resumeTimed, givenIf, startTimed, timed, times};
 use crate::kinds::is_after_duration;
 use crate::kinds::needs_period;
 use calendar::is_duration;
@@ -19,11 +19,21 @@ fn is_end_timed(endkind: u8, t: u32) -> bool
     ((endkind != 1) | is_time_of_day(t)) & ((endkind != 2) | is_duration(t))
 }
 
-// Whether a start's first time is in range: AT a time of day, AFTER a duration.
+// Whether a start's first time is in range: AT a time of day, AFTER a duration. Most calls have kind 0.
 fn is_first_timed(kind: u8, t: u32) -> bool
     ensures { λ r. ⌜ r ≡ firstTimed day kind t ⌝ }
 {
+    if kind == 0 {
+        return true;
+    }
     ((kind != 1) | is_time_of_day(t)) & (!is_after_duration(kind) | is_duration(t))
+}
+
+// Whether a RESUME's first time is in range: a duration in kind 0, else that of its start.
+fn is_resume_timed(kind: u8, t: u32) -> bool
+    ensures { λ r. ⌜ r ≡ resumeTimed day kind t ⌝ }
+{
+    ((0 < kind) | is_duration(t)) & is_first_timed(kind, t)
 }
 
 // Whether a period is given where one is needed.
@@ -51,7 +61,8 @@ fn is_timed(h: Head) -> bool
     let f = form_of(mark);
     match f {
         Form::TimeOfDay => is_time_of_day(h.first),
-        Form::Delay => is_duration(h.first),
+        Form::Continuation => is_first_timed(h.kind, h.first),
+        Form::Resumption => is_resume_timed(h.kind, h.first),
         Form::Activation => is_start_timed(h),
         _ => true,
     }

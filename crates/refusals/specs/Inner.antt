@@ -7,12 +7,13 @@ use Rattle.layout.specs.Marks.{is}
 use Rattle.layout.specs.declared.Call.{Call}
 use Rattle.layout.specs.declared.Head.{Head}
 use Rattle.layout.specs.declared.Mark.{Mark}
-use Rattle.layout.specs.declared.Mark.the-variants.{AC, TE, SU, CO}
+use Rattle.layout.specs.declared.Mark.the-variants.{AC, TE, SU}
 use Rattle.record.specs.Lists.{distinct}
 use Rattle.record.specs.Refusals.{mostNumbers, named, unless}
 use Rattle.lock.specs.Locks.{mostLocks, every}
 use Rattle.task.specs.State.{unheld, suspended}
 use Rattle.task.specs.declared.Task.{Task}
+use Rattle.machine.specs.Refusals.{isContinue}
 use Rattle.machine.specs.declared.Sort.{Sort}
 use Rattle.machine.specs.declared.Sort.the-variants.{Declaration, OneTask, TheRunner, ListAsked, ListGiven, AnInterrupt, EveryTask}
 
@@ -26,9 +27,9 @@ pub record InOrder (c : Call) : Type 0 where
 unfoldable pub namedRefusal : Mark → Head → Task → ℕ
 namedRefusal m h t =
     unless (not (is m AC && eqb (h .kind) 0) || not (t .alive)) 9
-    (unless (not (is m TE || is m SU || is m CO) || t .alive) 10
+    (unless (not (is m TE || is m SU || isContinue m h) || t .alive) 10
     (unless (not (is m SU) || not (suspended (t .hold))) 11
-    (unless (not (is m CO) || not (unheld (t .hold))) 12 0)))
+    (unless (not (isContinue m h) || not (unheld (t .hold))) 12 0)))
 
 -- A call of the sort is about one task and the locks.
 abbrev pub aboutOne : Sort → Bool

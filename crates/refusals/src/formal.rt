@@ -1,8 +1,6 @@
 // Refusals 2 to 7: what bytes, counts and the first accepted call decide.
 // `&` and `|` join tests that are all safe to make.
 ghost use mathlib.Core.Path.{_≡_};
-ghost use mathlib.Core.Bool.{_&&_};
-ghost use lib.Dec.{ltb};
 ghost use Prim.Native.Nat.{_≤_};
 ghost use Rattle.calendar.specs.Limits.{day};
 ghost use Rattle.record.specs.Refusals.{mostNumbers, shape};
@@ -21,8 +19,7 @@ use machine::MOST_TASKS;
 use machine::Sort;
 use record::Read;
 use record::Reading;
-use record::kinds::WHEN;
-use record::kinds::WHEN_AFTER;
+use record::kinds::is_on_interrupt;
 use record::reader::open;
 use record::reader::refuse;
 use record::shape::shape_at;
@@ -51,12 +48,11 @@ fn is_list_declared(n: Counts, w: Wait, h: Head, list: Numbers) -> bool
     are_below(list, h.len as usize, count_of(n, w))
 }
 
-// Whether an activation's task and interrupt are declared.
+// Whether the interrupt of a start is declared.
 fn is_start_declared(n: Counts, h: Head) -> bool
-    ensures { λ r. ⌜ r ≡ (ltb (h .number) (n .tasks) && startDeclared n h) ⌝ }
+    ensures { λ r. ⌜ r ≡ startDeclared n h ⌝ }
 {
-    let on_interrupt = (h.kind == WHEN) | (h.kind == WHEN_AFTER);
-    (h.number < n.tasks) & (!on_interrupt | (h.interrupt < n.interrupts))
+    !is_on_interrupt(h.kind) | (h.interrupt < n.interrupts)
 }
 
 // Whether what a call of a sort names is declared.
@@ -65,12 +61,12 @@ fn is_declared(sort: Sort, n: Counts, h: Head, list: Numbers) -> bool
     ensures { λ r. ⌜ r ≡ declaredBy sort n (callWith h list) ⌝ }
 {
     match sort {
-        Sort::OneTask => is_start_declared(n, h),
+        Sort::OneTask => (h.number < n.tasks) & is_start_declared(n, h),
+        Sort::TheRunner => is_start_declared(n, h),
         Sort::ListAsked(w, _) => is_list_declared(n, w, h, list),
         Sort::ListGiven(w) => is_list_declared(n, w, h, list),
         Sort::AnInterrupt => h.number < n.interrupts,
         Sort::Declaration => true,
-        Sort::TheRunner => true,
         Sort::EveryTask => true,
     }
 }

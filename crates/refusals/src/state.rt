@@ -35,7 +35,12 @@ fn named_refusal(h: Head, t: Task) -> u8
         Mark::AC => unless(!(h.kind == 0) | !t.alive, 9, 0),
         Mark::TE => unless(t.alive, 10, 0),
         Mark::SU => unless(t.alive, 10, unless(!hold.is_suspended(), 11, 0)),
-        Mark::CO => unless(t.alive, 10, unless(!hold.is_unheld(), 12, 0)),
+        Mark::CO => {
+            if h.kind != 0 {
+                return 0;
+            }
+            unless(t.alive, 10, unless(!hold.is_unheld(), 12, 0))
+        }
         _ => 0,
     }
 }

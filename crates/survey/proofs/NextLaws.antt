@@ -9,7 +9,7 @@ use Rattle.calendar.specs.Moments.{sooner, firstAfter}
 use Rattle.calendar.specs.declared.Instant.{Instant}
 use Rattle.calendar.specs.declared.Moment.{Moment}
 use Rattle.calendar.specs.declared.Moment.the-variants.{Never, At}
-use Rattle.task.specs.Coming.{delayEnd, nextStart}
+use Rattle.task.specs.Coming.{delayEnd, nextOf}
 use Rattle.machine.specs.State.{taskAt}
 use Rattle.machine.specs.NextEvent.{allPending, nextEvent}
 use Rattle.machine.specs.declared.State.{State}
@@ -57,7 +57,7 @@ unfolding firstAfter allPending
 among-none k = refl
 
 pub among-more : (k : State) (i s m : ℕ) → momentOf s ≡ nextAmong k i
-    → momentOf m ≡ sooner (k .now) (delayEnd (taskAt (k .tasks) i .hold)) (sooner (k .now) (nextStart (taskAt (k .tasks) i .schedule .alarm)) (momentOf s))
+    → momentOf m ≡ sooner (k .now) (delayEnd (taskAt (k .tasks) i .hold)) (sooner (k .now) (nextOf (taskAt (k .tasks) i .schedule .alarm)) (sooner (k .now) (nextOf (taskAt (k .tasks) i .continuation)) (momentOf s)))
     → momentOf m ≡ nextAmong k (i + 1)
 unfolding firstAfter allPending
 among-more k i s m e f = f ∙ rw (e, add-one)

@@ -1,10 +1,10 @@
--- What owning a kernel by value tells: how long its tables are, how long the list of a task that waits, and that a value
--- and a number of readers are a u16. With s the start of a function whose first parameter is the kernel,
+-- What owning a kernel by value tells: how long its tables are, how long the list of a task that waits, that the priority
+-- which a continuation gives is a u8, and that a value and a number of readers are a u16. With s the start of a function whose first parameter is the kernel,
 -- `(s .good .0 .0, s .good .0 .1 .1)` is an `Owned k`.
 use mathlib.Core.Path.{_≡_, refl, sym, _∙_}
 use mathlib.Core.Bool.{true}
 use mathlib.Core.List.{List, [], _∷_, map}
-use Prim.Native.Nat.{ℕ, zero, suc, _<_}
+use Prim.Native.Nat.{ℕ, zero, suc, _<_, _≤_}
 use native.Mathlib.Omega.{arith}
 use lib.Dec.{leb}
 use lib.ListN.{length, length-map, getD}
@@ -25,7 +25,7 @@ use Rattle.task.specs.declared.Task.{Task}
 use Rattle.task.proofs.Task as TaskT
 use Rattle.machine.specs.Invariants.{Tables}
 use Rattle.machine.specs.State.{mostTasks, taskAt}
-use Rattle.machine.specs.Test.{allBelow}
+use Rattle.machine.specs.Test.{mostPriority, allBelow}
 use Rattle.machine.specs.declared.State.{State}
 use Rattle.machine.proofs.State as KernelT
 use Rattle.machine.proofs.Below.{all-from}
@@ -42,6 +42,16 @@ lists-long [] us p i = λ w. contra w refl
 lists-long (t ∷ ts) [] p i = absurd p
 lists-long (t ∷ ts) (u ∷ us) p zero = λ w. sym (length-map (t .list) _) ∙ p .0 .1 .1 .1 .1 .1 .1 .1 .1 .0 .1 .0 .1
 lists-long (t ∷ ts) (u ∷ us) p (suc i) = lists-long ts us (p .1) i
+
+-- The priority that the continuation of each task gives.
+givens-fit :
+    (ts : List Task) (us : List Val) →
+    shadow (each (TaskT.the-field .row .Denot) (TaskT.the-field .row .own) (map (TaskT.the-field .into) ts) us) →
+    (i : ℕ) → taskAt ts i .given < 256
+givens-fit [] us p i = omega arith
+givens-fit (t ∷ ts) [] p i = absurd p
+givens-fit (t ∷ ts) (u ∷ us) p zero = p .0 .1 .1 .1 .1 .1 .1 .1 .1 .1 .0 .1
+givens-fit (t ∷ ts) (u ∷ us) p (suc i) = givens-fit ts us (p .1) i
 
 -- The readers of each bolt of a table.
 readers-fit :
@@ -68,6 +78,9 @@ module _ (k : State) (g : Owned k) where
 
   pub list-long : (i : ℕ) → waiting (taskAt (k .tasks) i .wait) ≡ true → length (taskAt (k .tasks) i .list) ≡ 4
   list-long i = lists-long (k .tasks) (g .1 .0 .0) (g .1 .0 .1 .1) i
+
+  pub given-small : (i : ℕ) → taskAt (k .tasks) i .given ≤ mostPriority
+  given-small i = let h = givens-fit (k .tasks) (g .1 .0 .0) (g .1 .0 .1 .1) i in omega arith
 
   value-fits : (i : ℕ) → valueAt (k .locks) i < 65536
   value-fits i =

@@ -1,8 +1,9 @@
--- One task in the kernel test: by its priorities, by its schedule, by a start kept back, and by whether it is at ease.
+-- One task in the kernel test: by its priorities, schedule and continuation, by a start kept back, and by whether it is at ease.
 use mathlib.Core.Path.{_≡_, refl}
 use mathlib.Core.Bool.{Bool, true, false, not, _&&_, _||_, and-true, and-false, and-assoc, and-comm, or-true, or-false}
 use mathlib.Core.List.{List}
-use Prim.Native.Nat.{ℕ}
+use Prim.Native.Nat.{ℕ, _≤_}
+use borrow.Author.Tests.{le-leb}
 use Rattle.calendar.specs.declared.Moment.the-variants.{Never}
 use Rattle.lock.specs.Locks.{waiting}
 use Rattle.lock.specs.declared.Locks.{Locks}
@@ -11,7 +12,7 @@ use Rattle.lock.specs.declared.Wait.the-variants.{Nothing, Request, Reserve, En
 use Rattle.lock.proofs.Bools.{contra, neither}
 use Rattle.task.specs.State.{unheld, isKept, runnable, wanted}
 use Rattle.task.specs.Alarms.{pending, planned}
-use Rattle.task.specs.Coming.{delayEnd, nextStart}
+use Rattle.task.specs.Coming.{delayEnd, nextOf}
 use Rattle.task.specs.declared.Alarm.{Alarm}
 use Rattle.task.specs.declared.Hold.{Hold}
 use Rattle.task.specs.declared.Hold.the-variants.{Unheld, Suspended, Delayed}
@@ -20,7 +21,7 @@ use Rattle.task.specs.declared.Kept.the-variants.{Empty, Back}
 use Rattle.task.specs.declared.Schedule.{Schedule}
 use Rattle.task.specs.declared.Task.{Task}
 use Rattle.machine.specs.Granting.{couldBeGranted}
-use Rattle.machine.specs.Test.{isPriority, keptOk, holdOk, scheduleOk, taskOk}
+use Rattle.machine.specs.Test.{mostPriority, isPriority, keptOk, holdOk, alarmOk, scheduleOk, continuationOk, taskOk}
 use Rattle.machine.specs.declared.Counts.{Counts}
 use Rattle.survey.specs.Looks.{atEase, waitSettled, busyOk}
 
@@ -28,13 +29,22 @@ use Rattle.survey.specs.Looks.{atEase, waitSettled, busyOk}
 unfoldable pub fit : ℕ → Counts → List Task → Locks → Task → Bool
 fit day n ts r t = taskOk day n t && not (waiting (t .wait) && couldBeGranted (n .tasks) ts r (t .current) (t .wait) (wanted t))
 
--- ---- no schedule
+-- ---- no schedule, no continuation
 
 pub plan-none : (day ni : ℕ) (s : Schedule) → planned (s .alarm .plan) ≡ false → scheduleOk day ni s ≡ true
 unfolding scheduleOk
 plan-none day ni s e = rw e
 
-pub no-start : (a : Alarm) → planned (a .plan) ≡ false → nextStart a ≡ Never
+pub continuation-none : (ni : ℕ) (a : Alarm) (p : ℕ) → planned (a .plan) ≡ false → continuationOk ni a p ≡ true
+unfolding continuationOk
+continuation-none ni a p e = rw e
+
+-- One that there is, with a byte for its priority.
+pub continuation-some : (ni : ℕ) (a : Alarm) (p : ℕ) → planned (a .plan) ≡ true → p ≤ mostPriority → alarmOk ni a ≡ continuationOk ni a p
+unfolding continuationOk
+continuation-some ni a p e l = rw (e, le-leb p mostPriority l, and-true)
+
+pub no-start : (a : Alarm) → planned (a .plan) ≡ false → nextOf a ≡ Never
 no-start a e = rw (neither (pending (a .plan)) _ e .0)
 
 -- ---- a start kept back: there is none, or its task lives and it has a priority
@@ -90,41 +100,47 @@ module _ (day : ℕ) (n : Counts) (ts : List Task) (r : Locks) (t : Task) where
   unfolding fit taskOk
   odd-schedule e = rw (e, and-false)
 
+  pub odd-continuation : continuationOk (n .interrupts) (t .continuation) (t .given) ≡ false → fit day n ts r t ≡ false
+  unfolding fit taskOk
+  odd-continuation e = rw (e, and-false)
+
   pub odd-kept : isKept (t .kept) ≡ true → (t .alive && keptOk (t .kept)) ≡ false → fit day n ts r t ≡ false
   unfolding fit taskOk
-  odd-kept k e = rw (k, or-false) (go (isPriority (t .declared) && isPriority (t .current)) (keptOk (t .kept)) (holdOk (t .hold)) (t .alive) _ _ _ e)
+  odd-kept k e = rw (k, or-false) (go (isPriority (t .declared) && isPriority (t .current)) (keptOk (t .kept)) (holdOk (t .hold)) (t .alive) _ _ _ _ e)
     where
-      go : (p k h a w s g : Bool) → (a && k) ≡ false → (p && k && h && a && w && s && g) ≡ false
-      go p k h false w s g e = rw and-false
-      go p k h true w s g e = rw (e, and-false)
+      go : (p k h a w s c g : Bool) → (a && k) ≡ false → (p && k && h && a && w && s && c && g) ≡ false
+      go p k h false w s c g e = rw and-false
+      go p k h true w s c g e = rw (e, and-false)
 
   pub odd-busy : atEase (t .wait) (t .hold) ≡ false → busyOk n ts r t ≡ false → fit day n ts r t ≡ false
   unfolding fit taskOk busyOk waitSettled
-  odd-busy e = rw (and-assoc (not (isKept (t .kept))), e, and-false, or-false) (go (isPriority (t .declared) && isPriority (t .current) && keptOk (t .kept)) (holdOk (t .hold)) (t .alive) _ _ _)
+  odd-busy e = rw (and-assoc (not (isKept (t .kept))), e, and-false, or-false) (go (isPriority (t .declared) && isPriority (t .current) && keptOk (t .kept)) (holdOk (t .hold)) (t .alive) _ _ _ _)
     where
-      go : (p h a w s g : Bool) → (a && h && (w && g)) ≡ false → (p && h && a && w && s && g) ≡ false
-      go false h a w s g e = refl
-      go true false a w s g e = refl
-      go true true false w s g e = refl
-      go true true true false s g e = refl
-      go true true true true false g e = refl
-      go true true true true true g e = e
+      go : (p h a w s c g : Bool) → (a && h && (w && g)) ≡ false → (p && h && a && w && s && c && g) ≡ false
+      go false h a w s c g e = refl
+      go true false a w s c g e = refl
+      go true true false w s c g e = refl
+      go true true true false s c g e = refl
+      go true true true true false c g e = refl
+      go true true true true true false g e = refl
+      go true true true true true true g e = e
 
   module _
       (priorities : (isPriority (t .declared) && isPriority (t .current)) ≡ true)
       (schedule : scheduleOk day (n .interrupts) (t .schedule) ≡ true)
+      (continuation : continuationOk (n .interrupts) (t .continuation) (t .given) ≡ true)
       (start : Starts (t .alive) (t .kept)) where
     pub fit-eased : atEase (t .wait) (t .hold) ≡ true → fit day n ts r t ≡ true
     unfolding fit taskOk
     fit-eased e =
         let q = eased (t .wait) (t .hold) e in
-        rw (priorities, start .kept, q .hold, and-assoc (not (isKept (t .kept))), e, and-true, start .lives, q .waits, schedule)
+        rw (priorities, start .kept, q .hold, and-assoc (not (isKept (t .kept))), e, and-true, start .lives, q .waits, schedule, continuation)
 
     pub fit-busy : busyOk n ts r t ≡ true → fit day n ts r t ≡ true
     unfolding fit taskOk busyOk waitSettled
-    fit-busy = rw (priorities, schedule, start .kept) (go (holdOk (t .hold)) (t .alive) _ _ _)
+    fit-busy = rw (priorities, schedule, continuation, start .kept) (go (holdOk (t .hold)) (t .alive) _ _ _)
       where
-        go : (h a e w g : Bool) → (a && h && (w && g)) ≡ true → (h && (a || e) && w && true && g) ≡ true
+        go : (h a e w g : Bool) → (a && h && (w && g)) ≡ true → (h && (a || e) && w && true && true && g) ≡ true
         go h false e w g x = contra x refl
         go false true e w g x = contra x refl
         go true true e false g x = contra x refl

@@ -21,7 +21,7 @@ use Rattle.task.specs.State.{restOk, wanted}
 use Rattle.task.specs.declared.Task.{Task}
 use Rattle.machine.specs.State.{mostTasks, taskAt, countOf}
 use Rattle.machine.specs.Granting.{couldBeGranted}
-use Rattle.machine.specs.Test.{between, isPriority, keptOk, holdOk, waitOk, scheduleOk, taskOk, allBelow, countsOk, nobodyServable, valid}
+use Rattle.machine.specs.Test.{between, isPriority, keptOk, holdOk, waitOk, scheduleOk, continuationOk, taskOk, allBelow, countsOk, nobodyServable, valid}
 use Rattle.machine.specs.declared.Counts.{Counts}
 use Rattle.machine.specs.declared.State.{State}
 use Rattle.machine.proofs.Below.{all-at}
@@ -131,8 +131,9 @@ pub wait-of : (day : ℕ) (n : Counts) (t : Task) → taskOk day n t ≡ true �
 unfolding taskOk
 wait-of day n t e =
     let s = scheduleOk day (n .interrupts) (t .schedule) in
+    let g = continuationOk (n .interrupts) (t .continuation) (t .given) in
     let r = isPriority (t .declared) && isPriority (t .current) && keptOk (t .kept) && holdOk (t .hold) && restOk t in
-    both r (waitOk n t) (both (r && waitOk n t) s e .0) .1
+    both r (waitOk n t) (both (r && waitOk n t) s (both (r && waitOk n t && s) g e .0) .0) .1
 
 abbrev pub fitAt : ℕ → State → ℕ → Bool
 fitAt day k i = fit day (k .counts) (k .tasks) (k .locks) (taskAt (k .tasks) i)

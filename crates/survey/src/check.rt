@@ -2,7 +2,7 @@
 ghost use mathlib.Core.Path.{_≡_};
 ghost use mathlib.Core.Bool.{true, _&&_};
 ghost use mathlib.Core.List.{List};
-ghost use Prim.Native.Nat.{_≤_};
+ghost use Prim.Native.Nat.{ℕ, _≤_};
 ghost use lib.Dec.{ltb};
 ghost use lib.ListN.{take};
 ghost use Rattle.lock.specs.Locks.{every};
@@ -11,7 +11,7 @@ ghost use Rattle.survey.specs.Looks.{atEase, waitSettled, busyOk};
 ghost use Rattle.calendar.specs.Limits.{day};
 ghost use Rattle.task.specs.Alarms.{planned};
 ghost use Rattle.machine.specs.State.{countOf};
-ghost use Rattle.machine.specs.Test.{isPriority, isStored, holdOk, keptOk, endOk, momentOk, listenerOk, alarmOk, lastOk, termsOk, scheduleOk, countsOk};
+ghost use Rattle.machine.specs.Test.{mostPriority, isPriority, isStored, holdOk, keptOk, endOk, momentOk, listenerOk, alarmOk, lastOk, termsOk, scheduleOk, continuationOk, countsOk};
 use crate::granting::Asker;
 use crate::granting::could_be_granted;
 use calendar::End;
@@ -148,6 +148,14 @@ pub fn is_schedule_ok(interrupts: u8, s: Schedule) -> bool
         return false;
     }
     are_terms_ok(s)
+}
+
+// The test of a continuation that there is. Its priority can be any byte.
+pub fn is_continuation_ok(interrupts: u8, a: Alarm) -> bool
+    requires { ⌜ planned (a .plan) ≡ true ⌝ }
+    ensures { λ r. ⌜ ((p : ℕ) → p ≤ mostPriority → r ≡ continuationOk interrupts a p) ⌝ }
+{
+    is_alarm_ok(interrupts, a)
 }
 
 pub fn is_planned(p: Plan) -> bool

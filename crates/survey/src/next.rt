@@ -3,7 +3,7 @@ ghost use mathlib.Core.Path.{_≡_};
 ghost use Prim.Native.Nat.{_≤_};
 ghost use Rattle.calendar.specs.Moments.{sooner};
 ghost use Rattle.calendar.specs.declared.Moment.{Moment};
-ghost use Rattle.task.specs.Coming.{delayEnd, nextStart};
+ghost use Rattle.task.specs.Coming.{delayEnd, nextOf};
 ghost use Rattle.machine.specs.State.{mostTasks};
 ghost use Rattle.machine.specs.NextEvent.{nextEvent};
 ghost use Rattle.survey.specs.Next.{momentOf};
@@ -27,8 +27,8 @@ fn sooner(s: u64, now: Instant, n: Instant) -> u64
 }
 
 // The earlier of s and the next due of an alarm, if it is to come.
-pub fn sooner_start(s: u64, now: Instant, alarm: Alarm) -> u64
-    ensures { λ r. ⌜ momentOf r ≡ sooner now (nextStart alarm) (momentOf s) ⌝ }
+pub fn sooner_due(s: u64, now: Instant, alarm: Alarm) -> u64
+    ensures { λ r. ⌜ momentOf r ≡ sooner now (nextOf alarm) (momentOf s) ⌝ }
 {
     let plan = alarm.plan;
     if plan.is_pending() {
@@ -71,7 +71,8 @@ pub fn next_event(k: State) -> Moment
         let hold = t.hold;
         let schedule = t.schedule;
         let alarm = schedule.alarm;
-        soonest = sooner_end(sooner_start(soonest, now, alarm), now, hold);
+        soonest = sooner_due(soonest, now, t.continuation);
+        soonest = sooner_end(sooner_due(soonest, now, alarm), now, hold);
     }
     moment_of(soonest)
 }

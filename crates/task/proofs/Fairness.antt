@@ -6,6 +6,7 @@ use native.Mathlib.Omega.{arith}
 use Rattle.calendar.specs.declared.Instant.{Instant}
 use Rattle.lock.specs.Locks.{waiting}
 use Rattle.lock.proofs.Bools.{tests, byBool, contra}
+use Rattle.task.specs.declared.Alarm.{Alarm}
 use Rattle.task.specs.declared.Hold.{Hold}
 use Rattle.task.specs.declared.Hold.the-variants.{Unheld, Suspended, Delayed}
 use Rattle.task.specs.declared.Kept.{Kept}
@@ -13,37 +14,19 @@ use Rattle.task.specs.declared.Kept.the-variants.{Empty, Back}
 use Rattle.task.specs.declared.Schedule.{Schedule}
 use Rattle.task.specs.declared.Task.{Task}
 use Rattle.task.specs.declared.Turn.{Turn}
-use Rattle.task.specs.State.{unheld, isKept, restOk, wanted, withHold, withSchedule}
-use Rattle.task.specs.Alarms.{falls}
-use Rattle.task.specs.Schedules.{advance}
+use Rattle.task.specs.State.{unheld, isKept, restOk, wanted, withHold, withSchedule, withContinuation}
+use Rattle.task.specs.Alarms.{listening, falls, listens, setOff}
+use Rattle.task.specs.Schedules.{advance, triggered}
+use Rattle.task.specs.Continuations.{goesOn, withNext, spent, continued, continueAt, calledBy}
 use Rattle.task.specs.Promises.{Fair, TurnsAreFair}
-use Rattle.task.specs.Turns.{unmarked, dueIf, dueTurn, endIf, endTurn, preventTurn, suspendTurn, continueTurn, resumeTurn, delayEnds, wake, fallTurn, tickTurn, scheduleTurn}
+use Rattle.task.proofs.Alike.{Like, like-wants, like-refl, like-hold, like-schedule, like-then, like-continuation, like-goes-on, like-continue-at, like-later, like-called, like-wake}
+use Rattle.task.specs.Turns.{unmarked, dueIf, dueTurn, endIf, endTurn, preventTurn, suspendTurn, continueTurn, resumeTurn, delayEnds, wake, fallTurn, tickTurn, scheduleTurn, startTurn, triggerTurn, laterTurn, restTurn}
 
 pub rest-facts : (a k w h : Bool) → (a || (not k && not w && h)) ≡ true → a ≡ false → (k ≡ false) × (w ≡ false) × (h ≡ true)
 rest-facts true k w h e z = contra refl z
 rest-facts false true w h e z = contra e refl
 rest-facts false false true h e z = contra e refl
 rest-facts false false false h e z = (refl, refl, e)
-
--- Of a task only what no set and no wait looks at has changed.
-pub record Like (t t′ : Task) : Type 0 where
-  pub alive : t′ .alive ≡ t .alive
-  pub kept : t′ .kept ≡ t .kept
-  pub wait : t′ .wait ≡ t .wait
-  pub wants : wanted t′ ≡ wanted t
-
-pub like-refl : (t : Task) → Like t t
-like-refl t = record { alive = refl; kept = refl; wait = refl; wants = refl }
-
-pub like-hold : (h : Hold) (t : Task) → Like t (withHold h t)
-like-hold h t = record { alive = refl; kept = refl; wait = refl; wants = refl }
-
-pub like-schedule : (s : Schedule) (t : Task) → Like t (withSchedule s t)
-like-schedule s t = record { alive = refl; kept = refl; wait = refl; wants = refl }
-
-pub like-wake : (n : Instant) (t : Task) → Like t (wake n t)
-unfolding wake
-like-wake n t = byBool (delayEnds n (t .hold)) (λ e. rw e (like-hold Unheld t)) (λ e. rw e (like-refl t))
 
 pub fair-unmarked : (t t′ : Task) → Like t t′ → Fair false t (unmarked t′)
 fair-unmarked t t′ h =
@@ -53,7 +36,7 @@ fair-unmarked t t′ h =
       lost = simp tests;
       granted = refl;
       waits = rw (h .wait) (simp tests);
-      wants = λ e. (h .wait, h .wants);
+      wants = λ e. (h .wait, like-wants t t′ h);
     }
 
 -- Such a change, then a fair turn.
@@ -65,7 +48,7 @@ fair-after p t t′ u h f =
       lost = rw (h .kept, h .alive) at (f .lost);
       granted = f .granted;
       waits = rw (h .wait) at (f .waits);
-      wants = λ e. (f .wants e .0 ∙ h .wait, f .wants e .1 ∙ h .wants);
+      wants = λ e. (f .wants e .0 ∙ h .wait, f .wants e .1 ∙ like-wants t t′ h);
     }
 
 -- ---- due and end
@@ -120,7 +103,7 @@ fair-suspend t = fair-unmarked t _ (like-hold Suspended t)
 
 pub fair-continue : (p : ℕ) (t : Task) → Fair false t (continueTurn p t)
 unfolding continueTurn
-fair-continue p t = fair-unmarked t _ (record { alive = refl; kept = refl; wait = refl; wants = refl })
+fair-continue p t = fair-unmarked t _ (like-goes-on p t)
 
 pub fair-resume : (n : Instant) (t : Task) → Fair false t (resumeTurn n t)
 unfolding resumeTurn
@@ -135,18 +118,80 @@ fair-fall n t r =
     (λ e. rw e (fair-after false t (withSchedule (advance n (t .schedule)) t) _ (like-schedule _ t) (fair-due (t .schedule .priority) (withSchedule (advance n (t .schedule)) t) r)))
     (λ e. rw e (fair-unmarked t t (like-refl t)))
 
-pub wake-rests : (n : Instant) (t : Task) → restOk t ≡ true → restOk (wake n t) ≡ true
-unfolding wake
-wake-rests n t r =
-    byBool (delayEnds n (t .hold)) (λ e. rw e (byBool (t .alive) (λ a. rw a) (λ a.
-    let q = rest-facts (t .alive) (isKept (t .kept)) (waiting (t .wait)) (unheld (t .hold)) r a in rw (a, q .0, q .1))))
-    (λ e. rw e r)
+-- A task at rest stays at rest, whatever its continuation and its hold become, if the hold is none.
+pub record Rests (t t′ : Task) : Type 0 where
+  pub like : Like t t′
+  pub holds : unheld (t .hold) ≡ true → unheld (t′ .hold) ≡ true
+
+pub rests-on : (t t′ : Task) → Rests t t′ → restOk t ≡ true → restOk t′ ≡ true
+rests-on t t′ h r =
+    rw (h .like .alive, h .like .kept, h .like .wait)
+    (byBool (t .alive) (λ a. rw a) (λ a.
+    let q = rest-facts (t .alive) (isKept (t .kept)) (waiting (t .wait)) (unheld (t .hold)) r a in rw (a, q .0, q .1, h .holds (q .2))))
+
+rests-then : (t u v : Task) → Rests t u → Rests u v → Rests t v
+rests-then t u v h k = record { like = like-then t u v (h .like) (k .like); holds = λ e. k .holds (h .holds e) }
+
+rests-wake : (n : Instant) (t : Task) → Rests t (wake n t)
+rests-wake n t = record { like = like-wake n t; holds = λ e. unfold wake in byBool (delayEnds n (t .hold)) (λ d. rw d) (λ d. rw d e) }
+
+spent-holds : (t : Task) → spent t .hold ≡ t .hold
+unfolding spent
+spent-holds t = byBool (listening (t .continuation .plan) && not (t .resumed)) (λ e. rw e) (λ e. rw e)
+
+continued-unheld : (t : Task) → unheld (continued t .hold) ≡ true
+unfolding continued
+continued-unheld t =
+    byBool (unheld (t .hold)) (λ e. rw (e, spent-holds t) e)
+    (λ e. rw (e, spent-holds (goesOn (t .given) t)))
+
+pub rests-continue-at : (n : Instant) (t : Task) → Rests t (continueAt n t)
+rests-continue-at n t =
+    record {
+      like = like-continue-at n t;
+      holds = λ h. unfold continueAt in byBool (falls n (t .continuation)) (λ e. rw e (continued-unheld t)) (λ e. rw e h);
+    }
+
+rests-continuation : (a : Alarm) (p : ℕ) (r : Bool) (t : Task) → Rests t (withContinuation a p r t)
+rests-continuation a p r t = record { like = like-continuation a p r t; holds = λ e. e }
+
+rests-called : (n : Instant) (i : ℕ) (t : Task) → Rests t (calledBy n i t)
+unfolding calledBy
+rests-called n i t =
+    byBool (listens i (t .continuation))
+    (λ e. rw e (rests-then t (withNext (setOff n (t .continuation)) t) _ (rests-continuation _ _ _ t) (rests-continue-at n (withNext (setOff n (t .continuation)) t))))
+    (λ e. rw e (record { like = like-refl t; holds = λ h. h }))
+
+-- What a tick does before the schedule's turn.
+rests-woken : (n : Instant) (t : Task) → Rests t (continueAt n (wake n t))
+rests-woken n t = rests-then t (wake n t) _ (rests-wake n t) (rests-continue-at n (wake n t))
 
 pub fair-tick : (n : Instant) (t : Task) → restOk t ≡ true → Fair false t (tickTurn n t)
-fair-tick n t r = fair-after false t (wake n t) _ (like-wake n t) (fair-fall n (wake n t) (wake-rests n t r))
+fair-tick n t r =
+    let h = rests-woken n t in
+    fair-after false t (continueAt n (wake n t)) _ (h .like) (fair-fall n (continueAt n (wake n t)) (rests-on t _ h r))
 
 pub fair-schedule : (n : Instant) (s : Schedule) (t : Task) → restOk t ≡ true → Fair false t (scheduleTurn n s t)
 fair-schedule n s t r = fair-after false t (withSchedule s t) _ (like-schedule s t) (fair-fall n (withSchedule s t) r)
+
+fair-start : (day clock : ℕ) (n : Instant) (i : ℕ) (t : Task) → restOk t ≡ true → Fair false t (startTurn day clock n i t)
+unfolding startTurn
+fair-start day clock n i t r =
+    byBool (listens i (t .schedule .alarm)) (λ e. rw e (fair-schedule n (triggered day clock n (t .schedule)) t r))
+    (λ e. rw e (fair-unmarked t t (like-refl t)))
+
+pub fair-trigger : (day clock : ℕ) (n : Instant) (i : ℕ) (t : Task) → restOk t ≡ true → Fair false t (triggerTurn day clock n i t)
+fair-trigger day clock n i t r =
+    let h = rests-called n i t in
+    fair-after false t (calledBy n i t) _ (h .like) (fair-start day clock n i (calledBy n i t) (rests-on t _ h r))
+
+-- ---- continuations
+
+pub fair-later : (n : Instant) (a : Alarm) (p : ℕ) (r : Bool) (t : Task) → Fair false t (laterTurn n a p r t)
+fair-later n a p r t = fair-unmarked t _ (like-later n a p r t)
+
+pub fair-rest : (n : Instant) (a : Alarm) (t : Task) → Fair false t (restTurn n a t)
+fair-rest n a t = fair-unmarked t _ (like-then t (withHold Suspended t) _ (like-hold Suspended t) (like-later n a 0 true (withHold Suspended t)))
 
 pub turns-are-fair : TurnsAreFair
 turns-are-fair =
@@ -159,4 +204,7 @@ turns-are-fair =
       resume = fair-resume;
       tick = fair-tick;
       schedule = fair-schedule;
+      trigger = fair-trigger;
+      later = fair-later;
+      rest = fair-rest;
     }

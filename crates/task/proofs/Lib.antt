@@ -1,6 +1,9 @@
 -- Laws of one task's turn.
+pub mod Alike
 pub mod Fairness
 pub mod Triggers
+pub mod Continuing
+pub mod Firing
 pub mod Waits
 pub mod Starts
 pub mod Laws

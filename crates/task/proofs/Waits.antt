@@ -1,10 +1,12 @@
 -- A turn begins no wait: who waits after it waited before, on the same list.
-use mathlib.Core.Path.{_≡_, refl}
+use mathlib.Core.Path.{_≡_, refl, _∙_}
 use mathlib.Core.Bool.{Bool, true, false}
 use Prim.Native.Nat.{ℕ}
 use Rattle.calendar.specs.declared.Instant.{Instant}
 use Rattle.lock.specs.Locks.{waiting}
 use Rattle.lock.proofs.Bools.{byBool, contra}
+use Rattle.task.specs.declared.Alarm.{Alarm}
+use Rattle.task.specs.declared.Hold.the-variants.{Suspended}
 use Rattle.task.specs.declared.Kept.{Kept}
 use Rattle.task.specs.declared.Kept.the-variants.{Empty, Back}
 use Rattle.task.specs.declared.Schedule.{Schedule}
@@ -12,7 +14,9 @@ use Rattle.task.specs.declared.Task.{Task}
 use Rattle.task.specs.State.{withHold, withSchedule}
 use Rattle.task.specs.Alarms.{falls, listens}
 use Rattle.task.specs.Schedules.{advance, triggered}
-use Rattle.task.specs.Turns.{dueIf, dueTurn, endIf, endTurn, preventTurn, suspendTurn, continueTurn, resumeTurn, delayEnds, wake, fallTurn, tickTurn, scheduleTurn, triggerTurn}
+use Rattle.task.specs.Turns.{dueIf, dueTurn, endIf, endTurn, preventTurn, suspendTurn, continueTurn, resumeTurn, wake, fallTurn, tickTurn, scheduleTurn, startTurn, triggerTurn, laterTurn, restTurn}
+use Rattle.task.specs.Continuations.{continueAt, calledBy}
+use Rattle.task.proofs.Alike.{Like, like-then, like-wake, like-continue-at, like-later, like-called}
 
 abbrev pub SameWait : Task → Task → Type 0
 SameWait t u = (u .wait ≡ t .wait) × (u .len ≡ t .len) × (u .list ≡ t .list)
@@ -39,6 +43,19 @@ unfolding fallTurn
 fall-waits n t =
     byBool (falls n (t .schedule .alarm)) (λ e. rw e (due-waits (t .alive) (t .kept) _ (withSchedule (advance n (t .schedule)) t)))
     (λ e. rw e (stays t))
+
+start-waits : (day clock : ℕ) (n : Instant) (i : ℕ) (t : Task) → NoNewWait t (startTurn day clock n i t .task)
+unfolding startTurn
+start-waits day clock n i t =
+    byBool (listens i (t .schedule .alarm)) (λ e. rw e (fall-waits n (withSchedule (triggered day clock n (t .schedule)) t)))
+    (λ e. rw e (stays t))
+
+same : (t t′ : Task) → Like t t′ → SameWait t t′
+same t t′ h = (h .wait, h .len, h .list)
+
+-- A change that leaves the wait as it is, then one that begins none.
+after : (t t′ u : Task) → Like t t′ → NoNewWait t′ u → NoNewWait t u
+after t t′ u h f w = let s = f w in (s .0 ∙ h .wait, s .1 ∙ h .len, s .2 ∙ h .list)
 
 module _ (t : Task) where
   pub no-wait-end : NoNewWait t (endTurn t .task)
@@ -67,10 +84,14 @@ module _ (t : Task) where
   no-wait-schedule n s = fall-waits n (withSchedule s t)
 
   pub no-wait-tick : (n : Instant) → NoNewWait t (tickTurn n t .task)
-  unfolding wake
-  no-wait-tick n = byBool (delayEnds n (t .hold)) (λ e. rw e (fall-waits n (withHold _ t))) (λ e. rw e (fall-waits n t))
+  no-wait-tick n =
+      after t (continueAt n (wake n t)) (tickTurn n t .task) (like-then t (wake n t) _ (like-wake n t) (like-continue-at n (wake n t))) (fall-waits n (continueAt n (wake n t)))
 
   pub no-wait-trigger : (day clock : ℕ) (n : Instant) (i : ℕ) → NoNewWait t (triggerTurn day clock n i t .task)
-  unfolding triggerTurn
-  no-wait-trigger day clock n i =
-      byBool (listens i (t .schedule .alarm)) (λ e. rw e (no-wait-schedule n (triggered day clock n (t .schedule)))) (λ e. rw e (stays t))
+  no-wait-trigger day clock n i = after t (calledBy n i t) (triggerTurn day clock n i t .task) (like-called n i t) (start-waits day clock n i (calledBy n i t))
+
+  pub no-wait-later : (n : Instant) (a : Alarm) (p : ℕ) (r : Bool) → NoNewWait t (laterTurn n a p r t .task)
+  no-wait-later n a p r w = same t (laterTurn n a p r t .task) (like-later n a p r t)
+
+  pub no-wait-rest : (n : Instant) (a : Alarm) → NoNewWait t (restTurn n a t .task)
+  no-wait-rest n a w = same (withHold Suspended t) (restTurn n a t .task) (like-later n a 0 true (withHold Suspended t))

@@ -16,13 +16,13 @@ delayEnd Unheld = Never
 delayEnd Suspended = Never
 delayEnd (Delayed n) = At n
 
--- The next due of a schedule. One that waits for its interrupt has none.
-abbrev pub nextStart : Alarm → Moment
-nextStart a = cond (pending (a .plan)) (At (a .next)) Never
+-- The next due of an alarm. One that waits for its interrupt has none.
+abbrev pub nextOf : Alarm → Moment
+nextOf a = cond (pending (a .plan)) (At (a .next)) Never
 
 -- All that pends for a task.
 abbrev pub pendings : Task → List Moment
-pendings t = delayEnd (t .hold) ∷ nextStart (t .schedule .alarm) ∷ []
+pendings t = delayEnd (t .hold) ∷ nextOf (t .schedule .alarm) ∷ nextOf (t .continuation) ∷ []
 
 -- Something comes to the task at n.
 abbrev pub comes : Instant → Task → Bool

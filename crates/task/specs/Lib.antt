@@ -3,6 +3,8 @@ pub mod State
 pub mod Alarms
 pub mod Schedules
 pub mod Coming
+pub mod Continuations
 pub mod Turns
 -- What they keep.
 pub mod Promises
+pub mod Continuing

@@ -8,6 +8,7 @@ use Rattle.calendar.specs.declared.Instant.{Instant}
 use Rattle.calendar.specs.declared.Moment.the-variants.{Never, At}
 use Rattle.lock.specs.Locks.{bit, waiting}
 use Rattle.task.specs.declared.Plan.the-variants.{Armed, Triggered}
+use Rattle.task.specs.declared.Alarm.{Alarm}
 use Rattle.task.specs.declared.Schedule.{Schedule}
 use Rattle.task.specs.declared.Task.{Task}
 use Rattle.task.specs.declared.Turn.{Turn}
@@ -15,7 +16,7 @@ use Rattle.task.specs.State.{noSchedule, isKept, restOk, wanted}
 use Rattle.task.specs.Alarms.{listening}
 use Rattle.task.specs.Schedules.{advance, triggered}
 use Rattle.task.specs.Coming.{comes}
-use Rattle.task.specs.Turns.{unmarked, dueTurn, endTurn, preventTurn, suspendTurn, continueTurn, resumeTurn, tickTurn, scheduleTurn}
+use Rattle.task.specs.Turns.{unmarked, dueTurn, endTurn, preventTurn, suspendTurn, continueTurn, resumeTurn, tickTurn, scheduleTurn, triggerTurn, laterTurn, restTurn}
 
 -- A turn is fair; p says whether it is that of a PREVENT.
 pub record Fair (p : Bool) (t : Task) (u : Turn) : Type 0 where
@@ -31,7 +32,7 @@ pub record Fair (p : Bool) (t : Task) (u : Turn) : Type 0 where
   pub waits : waiting (u .task .wait) ≡ (waiting (t .wait) && not (u .marks .ended))
   pub wants : waiting (u .task .wait) ≡ true → (u .task .wait ≡ t .wait) × (wanted (u .task) ≡ wanted t)
 
--- Every turn is fair; a trigger's and an activation's are a due's, a schedule's, or none of their own.
+-- Every turn is fair; an activation's is a due's or a schedule's.
 pub record TurnsAreFair : Type 0 where
   pub due : (p : ℕ) (t : Task) → restOk t ≡ true → Fair false t (dueTurn p t)
   pub end : (t : Task) → t .alive ≡ true → Fair false t (endTurn t)
@@ -41,6 +42,9 @@ pub record TurnsAreFair : Type 0 where
   pub resume : (n : Instant) (t : Task) → Fair false t (resumeTurn n t)
   pub tick : (n : Instant) (t : Task) → restOk t ≡ true → Fair false t (tickTurn n t)
   pub schedule : (n : Instant) (s : Schedule) (t : Task) → restOk t ≡ true → Fair false t (scheduleTurn n s t)
+  pub trigger : (day clock : ℕ) (n : Instant) (i : ℕ) (t : Task) → restOk t ≡ true → Fair false t (triggerTurn day clock n i t)
+  pub later : (n : Instant) (a : Alarm) (p : ℕ) (r : Bool) (t : Task) → Fair false t (laterTurn n a p r t)
+  pub rest : (n : Instant) (a : Alarm) (t : Task) → Fair false t (restTurn n a t)
 
 -- A tick to an instant at which nothing comes leaves the task as it is.
 abbrev pub QuietTurn : Type 0

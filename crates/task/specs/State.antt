@@ -37,8 +37,11 @@ noTask =
       wait = Nothing;
       len = 0;
       list = [];
+      given = 0;
+      resumed = false;
       hold = Unheld;
       schedule = noSchedule;
+      continuation = noAlarm;
     }
 
 -- ---- what is asked of a task
@@ -81,8 +84,11 @@ withCurrent p t =
       wait = t .wait;
       len = t .len;
       list = t .list;
+      given = t .given;
+      resumed = t .resumed;
       hold = t .hold;
       schedule = t .schedule;
+      continuation = t .continuation;
     }
 
 abbrev pub withAlive : Bool → Task → Task
@@ -95,8 +101,11 @@ withAlive b t =
       wait = t .wait;
       len = t .len;
       list = t .list;
+      given = t .given;
+      resumed = t .resumed;
       hold = t .hold;
       schedule = t .schedule;
+      continuation = t .continuation;
     }
 
 abbrev pub withKept : Kept → Task → Task
@@ -109,8 +118,11 @@ withKept k t =
       wait = t .wait;
       len = t .len;
       list = t .list;
+      given = t .given;
+      resumed = t .resumed;
       hold = t .hold;
       schedule = t .schedule;
+      continuation = t .continuation;
     }
 
 abbrev pub withHold : Hold → Task → Task
@@ -123,8 +135,11 @@ withHold h t =
       wait = t .wait;
       len = t .len;
       list = t .list;
+      given = t .given;
+      resumed = t .resumed;
       hold = h;
       schedule = t .schedule;
+      continuation = t .continuation;
     }
 
 abbrev pub withSchedule : Schedule → Task → Task
@@ -137,8 +152,29 @@ withSchedule s t =
       wait = t .wait;
       len = t .len;
       list = t .list;
+      given = t .given;
+      resumed = t .resumed;
       hold = t .hold;
       schedule = s;
+      continuation = t .continuation;
+    }
+
+-- A continuation: its alarm, the priority that it gives, and whether a RESUME made it.
+abbrev pub withContinuation : Alarm → ℕ → Bool → Task → Task
+withContinuation a p r t =
+    record {
+      declared = t .declared;
+      current = t .current;
+      alive = t .alive;
+      kept = t .kept;
+      wait = t .wait;
+      len = t .len;
+      list = t .list;
+      given = p;
+      resumed = r;
+      hold = t .hold;
+      schedule = t .schedule;
+      continuation = a;
     }
 
 -- A wait takes the whole list of the call.
@@ -152,8 +188,11 @@ waitFor w n l t =
       wait = w;
       len = n;
       list = l;
+      given = t .given;
+      resumed = t .resumed;
       hold = t .hold;
       schedule = t .schedule;
+      continuation = t .continuation;
     }
 
 -- Waits for nothing; its list is not looked at any more.

@@ -1,19 +1,21 @@
 -- One task's turn: what a due, an end, a tick or a call does to it, and which sets have it (document 01, "The step").
 use mathlib.Core.Bool.{Bool, true, false, cond}
-use Prim.Native.Nat.{ℕ, zero, suc}
+use Prim.Native.Nat.{ℕ}
 use Rattle.calendar.specs.Moments.{isAt}
 use Rattle.calendar.specs.declared.Instant.{Instant}
 use Rattle.task.specs.declared.Hold.{Hold}
 use Rattle.task.specs.declared.Hold.the-variants.{Unheld, Suspended, Delayed}
 use Rattle.task.specs.declared.Kept.{Kept}
 use Rattle.task.specs.declared.Kept.the-variants.{Empty, Back}
+use Rattle.task.specs.declared.Alarm.{Alarm}
 use Rattle.task.specs.declared.Schedule.{Schedule}
 use Rattle.task.specs.declared.Task.{Task}
 use Rattle.task.specs.declared.Turn.{Turn}
-use Rattle.task.specs.State.{noSchedule, isKept, withCurrent, withAlive, withKept, withHold, withSchedule, waitOver}
+use Rattle.task.specs.State.{noSchedule, isKept, withCurrent, withAlive, withKept, withHold, withSchedule, withContinuation, waitOver}
 use Rattle.task.specs.Alarms.{falls, listens}
 use Rattle.task.specs.Schedules.{advance, triggered}
 use Rattle.task.specs.Coming.{delayEnd}
+use Rattle.task.specs.Continuations.{goesOn, dropped, continueAt, calledBy}
 
 -- A turn's marks: due, started, ended, lost. No turn grants.
 abbrev pub marked : Bool → Bool → Bool → Bool → Task → Turn
@@ -54,16 +56,11 @@ endIf (Back p) t = marked false true true false (running p t)
 abbrev pub endTurn : Task → Turn
 endTurn t = endIf (t .kept) t
 
--- PREVENT removes the schedule and the start kept back, which is lost.
+-- PREVENT removes schedule, continuation and the start kept back, which is lost.
 unfoldable pub preventTurn : Task → Turn
-preventTurn t = marked false false false (isKept (t .kept)) (withSchedule noSchedule (withKept Empty t))
+preventTurn t = marked false false false (isKept (t .kept)) (dropped (withSchedule noSchedule (withKept Empty t)))
 
 -- ---- holds
-
--- A priority given, or another where it is 0.
-abbrev pub orElse : ℕ → ℕ → ℕ
-orElse zero q = q
-orElse (suc p) q = suc p
 
 -- SUSPEND, a delayed task too.
 unfoldable pub suspendTurn : Task → Turn
@@ -71,7 +68,7 @@ suspendTurn t = unmarked (withHold Suspended t)
 
 -- CONTINUE, with the priority given or the current one.
 unfoldable pub continueTurn : ℕ → Task → Turn
-continueTurn p t = unmarked (withHold Unheld (withCurrent (orElse p (t .current)) t))
+continueTurn p t = unmarked (goesOn p t)
 
 -- RESUME delays until n.
 unfoldable pub resumeTurn : Instant → Task → Turn
@@ -92,15 +89,29 @@ fallTurn n t =
     cond (falls n (t .schedule .alarm)) (dueTurn (t .schedule .priority) (withSchedule (advance n (t .schedule)) t))
     (unmarked t)
 
--- A tick to n: the delay first, then the schedule.
+-- A tick to n: the delay first, then the continuation, then the schedule.
 abbrev pub tickTurn : Instant → Task → Turn
-tickTurn n t = fallTurn n (wake n t)
+tickTurn n t = fallTurn n (continueAt n (wake n t))
 
 -- A schedule, from now on.
 abbrev pub scheduleTurn : Instant → Schedule → Task → Turn
 scheduleTurn n s t = fallTurn n (withSchedule s t)
 
--- TRIGGER of the enabled interrupt i at n.
-unfoldable pub triggerTurn : ℕ → ℕ → Instant → ℕ → Task → Turn
-triggerTurn day clock n i t =
+-- A trigger of interrupt i at n sets off a schedule that waits for it.
+unfoldable pub startTurn : ℕ → ℕ → Instant → ℕ → Task → Turn
+startTurn day clock n i t =
     cond (listens i (t .schedule .alarm)) (scheduleTurn n (triggered day clock n (t .schedule)) t) (unmarked t)
+
+-- TRIGGER of the enabled interrupt i at n: the continuation first, then the schedule.
+abbrev pub triggerTurn : ℕ → ℕ → Instant → ℕ → Task → Turn
+triggerTurn day clock n i t = startTurn day clock n i (calledBy n i t)
+
+-- ---- continuations
+
+-- CONTINUE on a schedule: from now on the task has this continuation.
+abbrev pub laterTurn : Instant → Alarm → ℕ → Bool → Task → Turn
+laterTurn n a p r t = unmarked (continueAt n (withContinuation a p r t))
+
+-- RESUME on a schedule: the task is suspended, and continues without a priority of its own.
+abbrev pub restTurn : Instant → Alarm → Task → Turn
+restTurn n a t = laterTurn n a 0 true (withHold Suspended t)

@@ -2,6 +2,7 @@
 ghost use mathlib.Core.Path.{_≡_};
 ghost use Prim.Native.Nat.{_≤_};
 ghost use Rattle.calendar.specs.Limits.{day, lastInstant, mostInstant};
+ghost use Rattle.task.specs.State.{noAlarm};
 ghost use Rattle.task.specs.Alarms.{pending, listening, setFor, armed, falls, listens, comingAt, rearmed, setOff, startOf, alarmOf};
 use crate::Alarm;
 use crate::Plan;
@@ -49,6 +50,18 @@ fn start_of(kind: u8, first: u32) -> Start
 }
 
 impl Alarm {
+    // No alarm.
+    pub fn none() -> Alarm
+        ensures { λ r. ⌜ r ≡ noAlarm ⌝ }
+    {
+        Alarm {
+            plan: Plan::None,
+            interrupt: 0,
+            delay: Duration(0),
+            next: Instant(0),
+        }
+    }
+
     // Comes due at n.
     fn set_for(n: Instant) -> Alarm
         ensures { λ r. ⌜ r ≡ setFor n ⌝ }

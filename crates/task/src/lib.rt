@@ -1,5 +1,6 @@
-// One task: its priorities, wait, hold, kept-back start and schedule.
+// One task: its priorities, wait, hold, kept-back start, schedule and continuation.
 pub mod alarms;
+pub mod continuations;
 pub mod schedules;
 pub mod turns;
 
@@ -46,6 +47,8 @@ pub struct Schedule {
     pub priority: u8,
 }
 
+// A continuation has three parts: its alarm, the priority that it gives (0: the one current then), and whether a RESUME
+// made it. The last two stand where the fields before the hold leave room, so it takes 16 bytes of a task and not 24.
 pub struct Task {
     pub declared: u8,
     pub current: u8,
@@ -54,8 +57,11 @@ pub struct Task {
     pub wait: Wait,
     pub len: u8,
     pub list: [u8; 4],
+    pub given: u8,
+    pub resumed: bool,
     pub hold: Hold,
     pub schedule: Schedule,
+    pub continuation: Alarm,
 }
 
 // Which of an answer's five sets have a task.

@@ -5,9 +5,7 @@ ghost use Rattle.calendar.specs.Limits.{day, lastInstant, mostInstant};
 ghost use Rattle.task.specs.State.{noSchedule};
 ghost use Rattle.task.specs.Schedules.{withAlarm, advance, lastOf, begun, triggered};
 use crate::Alarm;
-use crate::Plan;
 use crate::Schedule;
-use calendar::Duration;
 use calendar::End;
 use calendar::Instant;
 use calendar::Moment;
@@ -31,14 +29,8 @@ impl Schedule {
     pub fn none() -> Schedule
         ensures { λ r. ⌜ r ≡ noSchedule ⌝ }
     {
-        let alarm = Alarm {
-            plan: Plan::None,
-            interrupt: 0,
-            delay: Duration(0),
-            next: Instant(0),
-        };
         Schedule {
-            alarm,
+            alarm: Alarm::none(),
             last: Moment::Never,
             end: End::Open,
             period: 0,

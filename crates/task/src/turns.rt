@@ -1,10 +1,12 @@
 // One task's turn: what a due, an end, a tick or a call does to it, and which sets have it.
 ghost use mathlib.Core.Path.{_≡_};
+ghost use mathlib.Core.Bool.{_||_};
 ghost use Prim.Native.Nat.{_≤_};
 ghost use Rattle.calendar.specs.Limits.{day, lastInstant, mostInstant};
 ghost use Rattle.task.specs.State.{runnable, waitOver, waitFor, unheld, suspended, isKept, withCurrent, withAlive, withKept, withHold, withSchedule};
 ghost use Rattle.task.specs.Alarms.{listens};
-ghost use Rattle.task.specs.Turns.{marked, unmarked, cleared, dueTurn, endTurn, preventTurn, orElse, suspendTurn, continueTurn, resumeTurn, delayEnds, wake, fallTurn, tickTurn, scheduleTurn, triggerTurn};
+ghost use Rattle.task.specs.Turns.{marked, unmarked, cleared, dueTurn, endTurn, preventTurn, suspendTurn, continueTurn, resumeTurn, delayEnds, wake, fallTurn, tickTurn, scheduleTurn, startTurn, triggerTurn, laterTurn, restTurn};
+use crate::Alarm;
 use crate::Hold;
 use crate::Kept;
 use crate::Marks;
@@ -57,13 +59,6 @@ impl Kept {
             Kept::Back(_) => true,
         }
     }
-}
-
-// The priority given, or another where it is 0.
-pub fn or_else(given: u8, other: u8) -> u8
-    ensures { λ r. ⌜ r ≡ orElse given other ⌝ }
-{
-    if given == 0 { other } else { given }
 }
 
 impl Turn {
@@ -185,14 +180,14 @@ impl Task {
         }
     }
 
-    // PREVENT removes the schedule and the start kept back, which is lost.
+    // PREVENT removes schedule, continuation and the start kept back, which is lost.
     pub fn prevent(self) -> Turn
         ensures { λ r. ⌜ r ≡ preventTurn self ⌝ }
     {
         let kept = self.kept;
         let lost = kept.is_back();
-        let t = self.with_kept(Kept::Empty);
-        Turn::marked(t.with_schedule(Schedule::none()), false, false, false, lost)
+        let t = self.with_kept(Kept::Empty).with_schedule(Schedule::none());
+        Turn::marked(t.dropped(), false, false, false, lost)
     }
 
     pub fn suspend(self) -> Turn
@@ -205,13 +200,7 @@ impl Task {
     pub fn go_on(self, given: u8) -> Turn
         ensures { λ r. ⌜ r ≡ continueTurn given self ⌝ }
     {
-        let current = or_else(given, self.current);
-        let hold = Hold::Unheld;
-        Turn::unmarked(Task {
-            current,
-            hold,
-            ..self
-        })
+        Turn::unmarked(self.goes_on(given))
     }
 
     // RESUME delays until n.
@@ -246,12 +235,12 @@ impl Task {
         Turn::unmarked(self)
     }
 
-    // A tick to n: the delay first, then the schedule.
+    // A tick to n: the delay first, then the continuation, then the schedule.
     pub fn tick(self, n: Instant) -> Turn
         requires { ⌜ n .0 ≤ mostInstant ⌝ }
         ensures { λ r. ⌜ r ≡ tickTurn n self ⌝ }
     {
-        self.wake(n).fall(n)
+        self.wake(n).continue_at(n).fall(n)
     }
 
     // A schedule, from n on.
@@ -262,24 +251,50 @@ impl Task {
         self.with_schedule(s).fall(n)
     }
 
-    // Whether the task has a WHEN schedule on interrupt i.
+    // Whether the task has a schedule or a continuation that waits for interrupt i.
     pub fn listens_to(self, i: u8) -> bool
-        ensures { λ r. ⌜ r ≡ listens i (self .schedule .alarm) ⌝ }
+        ensures { λ r. ⌜ r ≡ (listens i (self .schedule .alarm) || listens i (self .continuation)) ⌝ }
     {
         let s = self.schedule;
         let alarm = s.alarm;
-        alarm.listens_to(i)
+        let continuation = self.continuation;
+        alarm.listens_to(i) | continuation.listens_to(i)
     }
 
-    // TRIGGER of the enabled interrupt i at n.
+    // A trigger of interrupt i at n sets off a schedule that waits for it.
+    fn start_by(self, clock: u32, n: Instant, i: u8) -> Turn
+        requires { ⌜ n .0 ≤ lastInstant ⌝ }
+        ensures { λ r. ⌜ r ≡ startTurn day clock n i self ⌝ }
+    {
+        let s = self.schedule;
+        let alarm = s.alarm;
+        if alarm.listens_to(i) {
+            return self.plan(s.trigger(clock, n), n);
+        }
+        Turn::unmarked(self)
+    }
+
+    // TRIGGER of the enabled interrupt i at n: the continuation first, then the schedule.
     pub fn trigger(self, clock: u32, n: Instant, i: u8) -> Turn
         requires { ⌜ n .0 ≤ lastInstant ⌝ }
         ensures { λ r. ⌜ r ≡ triggerTurn day clock n i self ⌝ }
     {
-        if self.listens_to(i) {
-            let s = self.schedule;
-            return self.plan(s.trigger(clock, n), n);
-        }
-        Turn::unmarked(self)
+        self.called_by(i, n).start_by(clock, n, i)
+    }
+
+    // CONTINUE on a schedule: a continuation, from n on.
+    pub fn go_on_later(self, alarm: Alarm, given: u8, resumed: bool, n: Instant) -> Turn
+        ensures { λ r. ⌜ r ≡ laterTurn n alarm given resumed self ⌝ }
+    {
+        let t = self.with_continuation(alarm, given, resumed);
+        Turn::unmarked(t.continue_at(n))
+    }
+
+    // RESUME on a schedule: suspended until then.
+    pub fn rest(self, alarm: Alarm, n: Instant) -> Turn
+        ensures { λ r. ⌜ r ≡ restTurn n alarm self ⌝ }
+    {
+        let t = self.with_hold(Hold::Suspended);
+        t.go_on_later(alarm, 0, true, n)
     }
 }

@@ -1,4 +1,4 @@
--- Who runs after a tick: no turn makes a task less urgent, so the lead only has to be held against the turns.
+-- Who runs after a tick: a task that can run keeps its priority, so the lead only has to be held against the turns.
 use mathlib.Core.Path.{_≡_, refl, sym, _∙_, ap}
 use mathlib.Core.Logic.{_≢_}
 use mathlib.Core.Bool.{Bool, true, false, not, _&&_}
@@ -16,7 +16,9 @@ use Rattle.lock.proofs.Bools.{byBool, byEq, contra, both}
 use Rattle.task.specs.State.{noTask, runnable, unheld, withSchedule}
 use Rattle.task.specs.Alarms.{falls}
 use Rattle.task.specs.Schedules.{advance}
+use Rattle.task.specs.Continuations.{continueAt}
 use Rattle.task.specs.Turns.{dueIf, delayEnds, wake, fallTurn, tickTurn}
+use Rattle.task.proofs.Alike.{unmoved-continue-at}
 use Rattle.task.specs.declared.Hold.{Hold}
 use Rattle.task.specs.declared.Hold.the-variants.{Unheld, Suspended, Delayed}
 use Rattle.task.specs.declared.Kept.{Kept}
@@ -103,15 +105,21 @@ due-on p t e false b z = contra z refl
 due-on p t e true Empty z = (e, refl)
 due-on p t e true (Back r) z = (e, refl)
 
--- A task that can run can run on, with the priority that it had.
-pub runs-on : (n : Instant) (t : Task) → runnable t ≡ true → (runnable (tickTurn n t .task) ≡ true) × (tickTurn n t .task .current ≡ t .current)
-unfolding wake fallTurn
-runs-on n t e =
-    let q = both (t .alive && unheld (t .hold)) (not (waiting (t .wait))) e .0 in
-    let p = both (t .alive) (unheld (t .hold)) q in
+fall-on : (n : Instant) (t : Task) → runnable t ≡ true → (runnable (fallTurn n t .task) ≡ true) × (fallTurn n t .task .current ≡ t .current)
+unfolding fallTurn
+fall-on n t e =
+    let p = both (t .alive) (unheld (t .hold)) (both (t .alive && unheld (t .hold)) (not (waiting (t .wait))) e .0) in
     let t′ = withSchedule (advance n (t .schedule)) t in
-    rw (awake n (t .hold) (p .1))
-    (byBool (falls n (t .schedule .alarm)) (λ f. rw f (due-on (t .schedule .priority) t′ e (t .alive) (t .kept) (p .0))) (λ f. rw f (e, refl)))
+    byBool (falls n (t .schedule .alarm)) (λ f. rw f (due-on (t .schedule .priority) t′ e (t .alive) (t .kept) (p .0))) (λ f. rw f (e, refl))
+
+-- A task that can run can run on, with the priority that it had: its continuation, if it comes due, finds it unheld.
+pub runs-on : (n : Instant) (t : Task) → runnable t ≡ true → (runnable (tickTurn n t .task) ≡ true) × (tickTurn n t .task .current ≡ t .current)
+unfolding wake
+runs-on n t e =
+    let u = both (t .alive) (unheld (t .hold)) (both (t .alive && unheld (t .hold)) (not (waiting (t .wait))) e .0) .1 in
+    let m = unmoved-continue-at n t u in
+    let f = fall-on n (continueAt n t) (rw (m .like .alive, m .hold, m .like .wait) e) in
+    rw (awake n (t .hold) u) (f .0, f .1 ∙ m .current)
 
 -- ---- a table, and who leads of those of its first c tasks that can run
 

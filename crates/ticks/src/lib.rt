@@ -63,19 +63,20 @@ fn trigger_all(mut k: State, interrupt: u8) -> Working
     Working { state: k, sets: s }
 }
 
-// Whether something may come at n to a task that is held so, with this next due. It comes to no other.
-fn may_come(hold: Hold, next: Instant, n: Instant) -> bool
-    ensures { λ r. ⌜ r ≡ mayCome hold next n ⌝ }
+// Whether something may come at n to a task that is held so, with these next dues. It comes to no other.
+fn may_come(hold: Hold, start: Instant, continuation: Instant, n: Instant) -> bool
+    ensures { λ r. ⌜ r ≡ mayCome hold start continuation n ⌝ }
 {
+    let due = (start.0 == n.0) | (continuation.0 == n.0);
     match hold {
-        Hold::Unheld => next.0 == n.0,
-        Hold::Suspended => next.0 == n.0,
+        Hold::Unheld => due,
+        Hold::Suspended => due,
         Hold::Delayed(_) => true,
     }
 }
 
-// Each declared task's turn at a tick: those that something may come to; the others stay as they are. No turn makes a
-// task less urgent, so the task that ran or one that had its turn runs. No turn begins a wait, so nobody is served.
+// Each declared task's turn at a tick: those that something may come to; the others stay as they are. A task that can
+// run keeps its priority, so the one that ran or one that had its turn runs. No turn begins a wait, so nobody is served.
 pub fn ticked(mut k: State, r: Running) -> Stepped
     requires { ⌜ valid day k ≡ true ⌝ }
     requires { ⌜ r ≡ runner k ⌝ }
@@ -99,7 +100,8 @@ pub fn ticked(mut k: State, r: Running) -> Stepped
         let hold = t.hold;
         let schedule = t.schedule;
         let alarm = schedule.alarm;
-        if may_come(hold, alarm.next, n) {
+        let continuation = t.continuation;
+        if may_come(hold, alarm.next, continuation.next, n) {
             let whole = k.tasks[i];
             let u = whole.tick(n);
             let after = u.task;

@@ -8,15 +8,15 @@ use Prim.Native.Nat.{_-_, _<_, _≤_}
 use native.Mathlib.Omega.{arith}
 use Rattle.calendar.specs.Limits.{day}
 use Rattle.calendar.specs.Moments.{sooner}
-use Rattle.task.specs.Coming.{delayEnd, nextStart}
+use Rattle.task.specs.Coming.{delayEnd, nextOf}
 use Rattle.task.specs.declared.Task.{Task}
 use Rattle.machine.specs.State.{mostTasks, taskAt}
-use Rattle.machine.specs.Test.{isPriority, scheduleOk, allBelow, countsOk, valid}
+use Rattle.machine.specs.Test.{mostPriority, isPriority, scheduleOk, continuationOk, allBelow, countsOk, valid}
 use Rattle.machine.specs.declared.State.{State}
 use Rattle.survey.specs.Looks.{atEase, unfit, surveyed}
 use Rattle.survey.specs.Next.{momentOf}
-use Rattle.survey.proofs.Owned.{Owned}
-use Rattle.survey.proofs.TaskFit.{plan-none, no-start, Starts, start-none, start-kept, eased, odd-priority, odd-schedule, odd-kept, odd-busy, fit-eased, fit-busy}
+use Rattle.survey.proofs.Owned.{Owned, given-small}
+use Rattle.survey.proofs.TaskFit.{plan-none, continuation-none, no-start, Starts, start-none, start-kept, eased, odd-priority, odd-schedule, odd-continuation, odd-kept, odd-busy, fit-eased, fit-busy}
 use Rattle.survey.proofs.TestLaws.{fitAt, upto-fails, upto-all, out-of-range, counted, tasks-fit, all-fit}
 use Rattle.look.proofs.Surveying.{Looked, sooner-more, sooner-same, led-eased, led-busy, looked-none, looked-next, looked-event, looked-runs, unfit-is, fit-is}
 use Rattle.look.proofs.survey.Statement.{statement}
@@ -60,6 +60,9 @@ one c = taskAt (state (passed c) .tasks) (c .before .loop .i)
 room : (c : I) → c .before .loop .i < mostTasks
 room c = omega (arith, few (passed c), c .loop-test .taken)
 
+small : (c : I) → one c .given ≤ mostPriority
+small c = given-small (state (passed c)) (good (passed c)) (c .before .loop .i)
+
 -- A task that isn't fit ends the look.
 ends : (c : I) → fitAt day (state (passed c)) (c .before .loop .i) ≡ false → unfit ≡ surveyed day (state (passed c))
 ends c e = unfit-is day (state (passed c)) (upto-fails (c .before .loop .inv .tasks) (c .loop-test .taken) e ∙ all (passed c))
@@ -67,43 +70,68 @@ ends c e = unfit-is day (state (passed c)) (upto-fails (c .before .loop .inv .ta
 abbrev here : tie.After-are-priorities Inv-loop μ-loop → I
 here c = c .before
 
+-- Where the continuation has been looked at.
+abbrev C : Type 0
+C = tie.Joined3 Inv-loop μ-loop
+
+abbrev prior : C → tie.After-are-priorities Inv-loop μ-loop
+prior c = c .before .before .before .before .before
+
+priorities : (c : C) → let t = one (here (prior c)) in (isPriority (t .declared) && isPriority (t .current)) ≡ true
+priorities c = sym (prior c .are-priorities .ensures) ∙ not-false _ (c .before .before .before .before .if2 .left)
+
+continuation : (c : C) → let i = here (prior c) in let t = one i in continuationOk (state (passed i) .counts .interrupts) (t .continuation) (t .given) ≡ true
+continuation c =
+    let i = here (prior c) in
+    ⊎-elim (λ w. sym (w .3 .ensures (one i .given) (small i)) ∙ not-false _ (w .4 .left))
+    (λ w. continuation-none _ _ _ (sym (c .before .is-planned .ensures) ∙ w .0 .left)) (c .if3 .came)
+
+continuing : (c : C) → let i = here (prior c) in
+    momentOf (c .if3 .soonest) ≡ sooner (state (passed i) .now) (nextOf (one i .continuation)) (momentOf (i .before .loop .soonest))
+continuing c =
+    let i = here (prior c) in
+    ⊎-elim (λ w. sooner-more (state (passed i) .now) (nextOf (one i .continuation)) (i .before .loop .soonest) refl (w .6) (w .5 .ensures))
+    (λ w. sooner-same (state (passed i) .now) (nextOf (one i .continuation)) (i .before .loop .soonest) refl (w .1) (no-start (one i .continuation) (sym (c .before .is-planned .ensures) ∙ w .0 .left))) (c .if3 .came)
+
 -- Where the schedule has been looked at.
 abbrev S : Type 0
-S = tie.Joined3 Inv-loop μ-loop
+S = tie.Joined5 Inv-loop μ-loop
 
-abbrev prior : S → tie.After-are-priorities Inv-loop μ-loop
-prior c = c .before .before .before .before .before .before
+abbrev continued : S → C
+continued c = c .before .before .before .before .before
 
-priorities : (c : S) → let t = one (here (prior c)) in (isPriority (t .declared) && isPriority (t .current)) ≡ true
-priorities c = sym (prior c .are-priorities .ensures) ∙ not-false _ (c .before .before .before .before .before .if2 .left)
+abbrev task : S → I
+task c = here (prior (continued c))
 
-schedule : (c : S) → let i = here (prior c) in let s = one i .schedule in scheduleOk day (state (passed i) .counts .interrupts) s ≡ true
+schedule : (c : S) → let i = task c in let s = one i .schedule in scheduleOk day (state (passed i) .counts .interrupts) s ≡ true
 schedule c =
     ⊎-elim (λ w. sym (w .3 .ensures) ∙ not-false _ (w .4 .left))
-    (λ w. plan-none day _ _ (sym (c .before .is-planned .ensures) ∙ w .0 .left)) (c .if3 .came)
+    (λ w. plan-none day _ _ (sym (c .before .is-planned2 .ensures) ∙ w .0 .left)) (c .if5 .came)
 
-starting : (c : S) → let i = here (prior c) in
-    momentOf (c .if3 .soonest) ≡ sooner (state (passed i) .now) (nextStart (one i .schedule .alarm)) (momentOf (i .before .loop .soonest))
+starting : (c : S) → let i = task c in let n = state (passed i) .now in
+    momentOf (c .if5 .soonest) ≡ sooner n (nextOf (one i .schedule .alarm)) (sooner n (nextOf (one i .continuation)) (momentOf (i .before .loop .soonest)))
 starting c =
-    let i = here (prior c) in
-    ⊎-elim (λ w. sooner-more (state (passed i) .now) (nextStart (one i .schedule .alarm)) (i .before .loop .soonest) refl (w .7) (w .6 .ensures))
-    (λ w. sooner-same (state (passed i) .now) (nextStart (one i .schedule .alarm)) (i .before .loop .soonest) refl (w .1) (no-start (one i .schedule .alarm) (sym (c .before .is-planned .ensures) ∙ w .0 .left))) (c .if3 .came)
+    let i = task c in
+    let a = one i .schedule .alarm in
+    let p = continued c in
+    ⊎-elim (λ w. sooner-more (state (passed i) .now) (nextOf a) (p .if3 .soonest) (continuing p) (w .7) (w .6 .ensures))
+    (λ w. sooner-same (state (passed i) .now) (nextOf a) (p .if3 .soonest) (continuing p) (w .1) (no-start a (sym (c .before .is-planned2 .ensures) ∙ w .0 .left))) (c .if5 .came)
 
 -- Where a start kept back has been looked at.
 abbrev U : Type 0
-U = tie.Joined5 Inv-loop μ-loop
+U = tie.Joined7 Inv-loop μ-loop
 
 abbrev scheduled : U → S
 scheduled c = c .before .before .before
 
 abbrev turn : U → I
-turn c = here (prior (scheduled c))
+turn c = task (scheduled c)
 
 start : (c : U) → let t = one (turn c) in Starts (t .alive) (t .kept)
 start c =
     let t = one (turn c) in
     ⊎-elim (λ w. start-kept (t .alive) (t .kept) (sym (w .2 .ensures) ∙ not-false _ (w .3 .left)))
-    (λ w. start-none (t .alive) (t .kept) (sym (c .before .is-back .ensures) ∙ w .left)) (c .if5 .came)
+    (λ w. start-none (t .alive) (t .kept) (sym (c .before .is-back .ensures) ∙ w .left)) (c .if7 .came)
 
 -- Where a task that isn't at ease has been looked at,
 abbrev B : Type 0
@@ -115,7 +143,7 @@ busy c = c .before .before .before .before .before .before .before
 uneased : (c : B) → let t = one (turn (busy c)) in atEase (t .wait) (t .hold) ≡ false
 uneased c =
     let b = c .before .before .before .before in
-    sym (b .before .is-at-ease .ensures) ∙ not-true _ (b .if7 .taken)
+    sym (b .before .is-at-ease .ensures) ∙ not-true _ (b .if9 .taken)
 
 -- and one that is.
 abbrev E : Type 0
@@ -125,7 +153,7 @@ abbrev calm : E → U
 calm c = c .before .before .before .before
 
 at-ease : (c : E) → let t = one (turn (calm c)) in atEase (t .wait) (t .hold) ≡ true
-at-ease c = sym (c .before .before .is-at-ease .ensures) ∙ not-false _ (c .before .if7 .left)
+at-ease c = sym (c .before .before .is-at-ease .ensures) ∙ not-false _ (c .before .if9 .left)
 
 -- ---- the needs
 
@@ -188,13 +216,13 @@ is-planned-requires : tie.Need-is-planned-requires Inv-loop μ-loop
 is-planned-requires c κs = search needs
 
 mul-t-2 : tie.Need-mul-t-2 Inv-loop μ-loop
-mul-t-2 c = omega (arith, room (here (c .before .before .before .before .before .before)))
+mul-t-2 c = omega (arith, room (here (c .before .before .before .before .before)))
 
 element-copy-out-t-2 : tie.Need-element-copy-out-t-2 Inv-loop μ-loop
-element-copy-out-t-2 c = omega (arith, room (here (c .before .before .before .before .before .before)))
+element-copy-out-t-2 c = omega (arith, room (here (c .before .before .before .before .before)))
 
-is-schedule-ok-requires : tie.Need-is-schedule-ok-requires Inv-loop μ-loop
-is-schedule-ok-requires c κs = sym (c .before .before .before .is-planned .ensures) ∙ c .before .before .if3 .taken
+is-continuation-ok-requires : tie.Need-is-continuation-ok-requires Inv-loop μ-loop
+is-continuation-ok-requires c κs = sym (c .before .before .before .is-planned .ensures) ∙ c .before .before .if3 .taken
 
 unfit-requires-3 : tie.Need-unfit-requires-3 Inv-loop μ-loop
 unfit-requires-3 c κs = search needs
@@ -202,13 +230,13 @@ unfit-requires-3 c κs = search needs
 returns-3 : tie.Need-returns-3 Inv-loop μ-loop
 returns-3 c =
     let a = c .before .before in
-    let i = here (a .before .before .before .before .before .before .before .before .before) in
+    let i = here (a .before .before .before .before .before .before .before .before) in
     let k = state (passed i) in
     c .unfit3 .ensures
-    ∙ ends i (odd-schedule day (k .counts) (k .tasks) (k .locks) (one i) (sym (a .is-schedule-ok .ensures) ∙ not-true _ (c .before .if4 .taken)))
+    ∙ ends i (odd-continuation day (k .counts) (k .tasks) (k .locks) (one i) (sym (a .is-continuation-ok .ensures (one i .given) (small i)) ∙ not-true _ (c .before .if4 .taken)))
 
-sooner-start-requires : tie.Need-sooner-start-requires Inv-loop μ-loop
-sooner-start-requires c κs = search needs
+sooner-due-requires : tie.Need-sooner-due-requires Inv-loop μ-loop
+sooner-due-requires c κs = search needs
 
 mul-t-3 : tie.Need-mul-t-3 Inv-loop μ-loop
 mul-t-3 c = omega (arith, room (here (prior c)))
@@ -216,43 +244,75 @@ mul-t-3 c = omega (arith, room (here (prior c)))
 element-copy-out-t-3 : tie.Need-element-copy-out-t-3 Inv-loop μ-loop
 element-copy-out-t-3 c = omega (arith, room (here (prior c)))
 
-is-back-requires : tie.Need-is-back-requires Inv-loop μ-loop
-is-back-requires c κs = search needs
+is-planned-requires-2 : tie.Need-is-planned-requires-2 Inv-loop μ-loop
+is-planned-requires-2 c κs = search needs
 
 mul-t-4 : tie.Need-mul-t-4 Inv-loop μ-loop
-mul-t-4 c = omega (arith, room (here (prior (c .before .before .before))))
+mul-t-4 c = omega (arith, room (here (prior (c .before .before .before .before .before))))
 
 element-copy-out-t-4 : tie.Need-element-copy-out-t-4 Inv-loop μ-loop
-element-copy-out-t-4 c = omega (arith, room (here (prior (c .before .before .before))))
+element-copy-out-t-4 c = omega (arith, room (here (prior (c .before .before .before .before .before))))
 
-mul-is-kept-right : tie.Need-mul-is-kept-right Inv-loop μ-loop
-mul-is-kept-right c = omega (arith, room (here (prior (c .before .before .before .before))))
-
-element-copy-out-is-kept-right : tie.Need-element-copy-out-is-kept-right Inv-loop μ-loop
-element-copy-out-is-kept-right c = omega (arith, room (here (prior (c .before .before .before .before))))
-
-is-kept-right-requires : tie.Need-is-kept-right-requires Inv-loop μ-loop
-is-kept-right-requires c κs = search needs
+is-schedule-ok-requires : tie.Need-is-schedule-ok-requires Inv-loop μ-loop
+is-schedule-ok-requires c κs = sym (c .before .before .before .is-planned2 .ensures) ∙ c .before .before .if5 .taken
 
 unfit-requires-4 : tie.Need-unfit-requires-4 Inv-loop μ-loop
 unfit-requires-4 c κs = search needs
 
 returns-4 : tie.Need-returns-4 Inv-loop μ-loop
 returns-4 c =
-    let b = c .before .before in
-    let e = b .before .before .before in
-    let i = here (prior (e .before .before)) in
+    let a = c .before .before in
+    let i = here (prior (a .before .before .before .before .before .before .before .before)) in
     let k = state (passed i) in
     c .unfit4 .ensures
-    ∙ ends i (odd-kept day (k .counts) (k .tasks) (k .locks) (one i)
-    (sym (e .is-back .ensures) ∙ b .before .before .if5 .taken)
-    (sym (b .is-kept-right .ensures) ∙ not-true _ (c .before .if6 .taken)))
+    ∙ ends i (odd-schedule day (k .counts) (k .tasks) (k .locks) (one i) (sym (a .is-schedule-ok .ensures) ∙ not-true _ (c .before .if6 .taken)))
+
+sooner-due-requires-2 : tie.Need-sooner-due-requires-2 Inv-loop μ-loop
+sooner-due-requires-2 c κs = search needs
 
 mul-t-5 : tie.Need-mul-t-5 Inv-loop μ-loop
-mul-t-5 c = omega (arith, room (turn c))
+mul-t-5 c = omega (arith, room (task c))
 
 element-copy-out-t-5 : tie.Need-element-copy-out-t-5 Inv-loop μ-loop
-element-copy-out-t-5 c = omega (arith, room (turn c))
+element-copy-out-t-5 c = omega (arith, room (task c))
+
+is-back-requires : tie.Need-is-back-requires Inv-loop μ-loop
+is-back-requires c κs = search needs
+
+mul-t-6 : tie.Need-mul-t-6 Inv-loop μ-loop
+mul-t-6 c = omega (arith, room (task (c .before .before .before)))
+
+element-copy-out-t-6 : tie.Need-element-copy-out-t-6 Inv-loop μ-loop
+element-copy-out-t-6 c = omega (arith, room (task (c .before .before .before)))
+
+mul-is-kept-right : tie.Need-mul-is-kept-right Inv-loop μ-loop
+mul-is-kept-right c = omega (arith, room (task (c .before .before .before .before)))
+
+element-copy-out-is-kept-right : tie.Need-element-copy-out-is-kept-right Inv-loop μ-loop
+element-copy-out-is-kept-right c = omega (arith, room (task (c .before .before .before .before)))
+
+is-kept-right-requires : tie.Need-is-kept-right-requires Inv-loop μ-loop
+is-kept-right-requires c κs = search needs
+
+unfit-requires-5 : tie.Need-unfit-requires-5 Inv-loop μ-loop
+unfit-requires-5 c κs = search needs
+
+returns-5 : tie.Need-returns-5 Inv-loop μ-loop
+returns-5 c =
+    let b = c .before .before in
+    let e = b .before .before .before in
+    let i = task (e .before .before) in
+    let k = state (passed i) in
+    c .unfit5 .ensures
+    ∙ ends i (odd-kept day (k .counts) (k .tasks) (k .locks) (one i)
+    (sym (e .is-back .ensures) ∙ b .before .before .if7 .taken)
+    (sym (b .is-kept-right .ensures) ∙ not-true _ (c .before .if8 .taken)))
+
+mul-t-7 : tie.Need-mul-t-7 Inv-loop μ-loop
+mul-t-7 c = omega (arith, room (turn c))
+
+element-copy-out-t-7 : tie.Need-element-copy-out-t-7 Inv-loop μ-loop
+element-copy-out-t-7 c = omega (arith, room (turn c))
 
 is-at-ease-requires : tie.Need-is-at-ease-requires Inv-loop μ-loop
 is-at-ease-requires c κs = search needs
@@ -266,28 +326,28 @@ element-copy-out-against-if c = omega (arith, room (turn (c .before .before .bef
 against-if-requires : tie.Need-against-if-requires Inv-loop μ-loop
 against-if-requires c κs = room (turn (c .before .before .before))
 
-mul-t-6 : tie.Need-mul-t-6 Inv-loop μ-loop
-mul-t-6 c = omega (arith, room (turn (c .before .before .before)))
+mul-t-8 : tie.Need-mul-t-8 Inv-loop μ-loop
+mul-t-8 c = omega (arith, room (turn (c .before .before .before)))
 
-element-copy-out-t-6 : tie.Need-element-copy-out-t-6 Inv-loop μ-loop
-element-copy-out-t-6 c = omega (arith, room (turn (c .before .before .before)))
+element-copy-out-t-8 : tie.Need-element-copy-out-t-8 Inv-loop μ-loop
+element-copy-out-t-8 c = omega (arith, room (turn (c .before .before .before)))
 
 is-busy-ok-requires : tie.Need-is-busy-ok-requires Inv-loop μ-loop
 is-busy-ok-requires c κs = known (passed (turn (c .before .before .before .before)))
 
-unfit-requires-5 : tie.Need-unfit-requires-5 Inv-loop μ-loop
-unfit-requires-5 c κs = search needs
+unfit-requires-6 : tie.Need-unfit-requires-6 Inv-loop μ-loop
+unfit-requires-6 c κs = search needs
 
-returns-5 : tie.Need-returns-5 Inv-loop μ-loop
-returns-5 c =
+returns-6 : tie.Need-returns-6 Inv-loop μ-loop
+returns-6 c =
     let b = c .before .before in
     let e = b .before .before .before in
     let i = turn (e .before .before) in
     let k = state (passed i) in
-    c .unfit5 .ensures
+    c .unfit6 .ensures
     ∙ ends i (odd-busy day (k .counts) (k .tasks) (k .locks) (one i)
-    (sym (e .is-at-ease .ensures) ∙ not-true _ (b .before .before .if7 .taken))
-    (sym (b .is-busy-ok .ensures (k .tasks)) ∙ not-true _ (c .before .if8 .taken)))
+    (sym (e .is-at-ease .ensures) ∙ not-true _ (b .before .before .if9 .taken))
+    (sym (b .is-busy-ok .ensures (k .tasks)) ∙ not-true _ (c .before .if10 .taken)))
 
 sooner-end-requires : tie.Need-sooner-end-requires Inv-loop μ-loop
 sooner-end-requires c κs = search needs
@@ -310,8 +370,8 @@ loop-again c =
     let t = one i in
     let tested = c .before .before in
     looked-next day k (l .inv) (i .loop-test .taken) (c .sooner-end .result)
-    (fit-busy day (k .counts) (k .tasks) (k .locks) t (priorities p) (schedule p) (start u) (sym (tested .is-busy-ok .ensures (k .tasks)) ∙ not-false _ (c .before .if8 .left)))
-    (sooner-more (k .now) (delayEnd (t .hold)) (p .if3 .soonest) (starting p) {c = c .sooner-end .result} refl (c .sooner-end .ensures))
+    (fit-busy day (k .counts) (k .tasks) (k .locks) t (priorities (continued p)) (schedule p) (continuation (continued p)) (start u) (sym (tested .is-busy-ok .ensures (k .tasks)) ∙ not-false _ (c .before .if10 .left)))
+    (sooner-more (k .now) (delayEnd (t .hold)) (p .if5 .soonest) (starting p) {c = c .sooner-end .result} refl (c .sooner-end .ensures))
     (led-busy (k .tasks) (l .i) (l .inv .leads) (uneased c))
 
 add-i-2 : tie.Need-add-i-2 Inv-loop μ-loop
@@ -330,9 +390,9 @@ loop-again-2 c =
     let l = i .before .loop in
     let k = state (passed i) in
     let t = one i in
-    looked-next day k (l .inv) (i .loop-test .taken) (p .if3 .soonest)
-    (fit-eased day (k .counts) (k .tasks) (k .locks) t (priorities p) (schedule p) (start u) (at-ease c))
-    (sooner-same (k .now) (delayEnd (t .hold)) (p .if3 .soonest) (starting p) refl (eased (t .wait) (t .hold) (at-ease c) .ends))
+    looked-next day k (l .inv) (i .loop-test .taken) (p .if5 .soonest)
+    (fit-eased day (k .counts) (k .tasks) (k .locks) t (priorities (continued p)) (schedule p) (continuation (continued p)) (start u) (at-ease c))
+    (sooner-same (k .now) (delayEnd (t .hold)) (p .if5 .soonest) (starting p) refl (eased (t .wait) (t .hold) (at-ease c) .ends))
     (led-eased (k .tasks) (l .i) (l .inv .leads) (at-ease c) (c .against-if .ensures))
 
 moment-of-requires : tie.Need-moment-of-requires Inv-loop μ-loop
@@ -341,8 +401,8 @@ moment-of-requires c κs = search needs
 who-requires : tie.Need-who-requires Inv-loop μ-loop
 who-requires c κs = search needs
 
-returns-6 : tie.Need-returns-6 Inv-loop μ-loop
-returns-6 c =
+returns-7 : tie.Need-returns-7 Inv-loop μ-loop
+returns-7 c =
     let e = c .before .before in
     let l = e .before in
     let p = l .before .before .before .before in
@@ -376,28 +436,37 @@ survey-spec =
     is-planned-requires
     mul-t-2
     element-copy-out-t-2
-    is-schedule-ok-requires
+    is-continuation-ok-requires
     unfit-requires-3
     returns-3
-    sooner-start-requires
+    sooner-due-requires
     mul-t-3
     element-copy-out-t-3
-    is-back-requires
+    is-planned-requires-2
     mul-t-4
     element-copy-out-t-4
+    is-schedule-ok-requires
+    unfit-requires-4
+    returns-4
+    sooner-due-requires-2
+    mul-t-5
+    element-copy-out-t-5
+    is-back-requires
+    mul-t-6
+    element-copy-out-t-6
     mul-is-kept-right
     element-copy-out-is-kept-right
     is-kept-right-requires
-    unfit-requires-4
-    returns-4
-    mul-t-5
-    element-copy-out-t-5
-    is-at-ease-requires
-    mul-t-6
-    element-copy-out-t-6
-    is-busy-ok-requires
     unfit-requires-5
     returns-5
+    mul-t-7
+    element-copy-out-t-7
+    is-at-ease-requires
+    mul-t-8
+    element-copy-out-t-8
+    is-busy-ok-requires
+    unfit-requires-6
+    returns-6
     sooner-end-requires
     add-i
     loop-less
@@ -410,4 +479,4 @@ survey-spec =
     loop-again-2
     moment-of-requires
     who-requires
-    returns-6)
+    returns-7)

@@ -93,7 +93,7 @@ abbrev J : Type 0
 J = tie.Joined2 Inv-loop μ-loop
 
 abbrev here : J → I
-here c = c .before .before .before .before .before
+here c = c .before .before .before .before .before .before
 
 made : (c : J) → let l = here c in
     Made (tickTurn (moment (passed l))) (state (passed l)) (l .before .loop .i + 1) (c .if2 .k) (c .if2 .s)
@@ -203,28 +203,28 @@ may-come-requires : tie.Need-may-come-requires Inv-loop μ-loop
 may-come-requires c κs = search needs
 
 mul-whole : tie.Need-mul-whole Inv-loop μ-loop
-mul-whole c = omega (arith, inside (c .before .before .before .before .before))
+mul-whole c = omega (arith, inside (c .before .before .before .before .before .before))
 
 element-copy-out-whole : tie.Need-element-copy-out-whole Inv-loop μ-loop
-element-copy-out-whole c = omega (arith, inside (c .before .before .before .before .before))
+element-copy-out-whole c = omega (arith, inside (c .before .before .before .before .before .before))
 
 tick-requires : tie.Need-tick-requires Inv-loop μ-loop
-tick-requires c κs = omega (arith, in-time (passed (c .before .before .before .before .before .before)))
+tick-requires c κs = omega (arith, in-time (passed (c .before .before .before .before .before .before .before)))
 
 mul-after : tie.Need-mul-after Inv-loop μ-loop
-mul-after c = omega (arith, inside (c .before .before .before .before .before .before .before .before))
+mul-after c = omega (arith, inside (c .before .before .before .before .before .before .before .before .before))
 
 element-set-from-after : tie.Need-element-set-from-after Inv-loop μ-loop
-element-set-from-after c = omega (arith, inside (c .before .before .before .before .before .before .before .before))
+element-set-from-after c = omega (arith, inside (c .before .before .before .before .before .before .before .before .before))
 
 put-marks-requires : tie.Need-put-marks-requires Inv-loop μ-loop
-put-marks-requires c κs = omega (arith, inside (c .before .before .before .before .before .before .before .before))
+put-marks-requires c κs = omega (arith, inside (c .before .before .before .before .before .before .before .before .before))
 
 is-runnable-requires : tie.Need-is-runnable-requires Inv-loop μ-loop
 is-runnable-requires c κs = search needs
 
 against-if-requires-2 : tie.Need-against-if-requires-2 Inv-loop μ-loop
-against-if-requires-2 c κs = omega (arith, inside (c .before .before .before .before .before .before .before .before .before .before))
+against-if-requires-2 c κs = omega (arith, inside (c .before .before .before .before .before .before .before .before .before .before .before))
 
 add-i : tie.Need-add-i Inv-loop μ-loop
 add-i c = omega (arith, inside (here c))

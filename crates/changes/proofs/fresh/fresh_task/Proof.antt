@@ -1,4 +1,4 @@
--- Each field as written, the schedule by its own contract.
+-- Each field as written, schedule and continuation by their own contracts.
 use borrow.Author.Needs.{needs}
 use Rattle.machine.specs.State.{freshTask}
 use Rattle.changes.proofs.fresh.fresh_task.Statement.{statement}
@@ -7,9 +7,12 @@ use Rattle.changes.proofs.fresh.fresh_task.Tie as tie
 none-requires : tie.Need-none-requires
 none-requires c κs = search needs
 
+none-requires-2 : tie.Need-none-requires-2
+none-requires-2 c κs = search needs
+
 returns : tie.Need-returns
 unfolding freshTask
-returns c = rw (c .none .ensures)
+returns c = rw (c .none2 .ensures, c .before .none .ensures)
 
 pub fresh-task-spec : {M : Type 1} → statement M
-fresh-task-spec = tie.close (tie.spec none-requires returns)
+fresh-task-spec = tie.close (tie.spec none-requires none-requires-2 returns)

@@ -26,8 +26,11 @@ mul-t c = search needs
 element-copy-out-t : tie.Need-element-copy-out-t Inv-loop μ-loop
 element-copy-out-t c = search needs
 
-sooner-start-requires : tie.Need-sooner-start-requires Inv-loop μ-loop
-sooner-start-requires c κs = search needs
+sooner-due-requires : tie.Need-sooner-due-requires Inv-loop μ-loop
+sooner-due-requires c κs = search needs
+
+sooner-due-requires-2 : tie.Need-sooner-due-requires-2 Inv-loop μ-loop
+sooner-due-requires-2 c κs = search needs
 
 sooner-end-requires : tie.Need-sooner-end-requires Inv-loop μ-loop
 sooner-end-requires c κs = search needs
@@ -40,9 +43,9 @@ loop-less c = search needs
 
 loop-again : tie.Need-loop-again Inv-loop μ-loop
 loop-again c =
-    let l = c .before .before .before .before .before .before .loop in
-    let k = c .before .before .before .before .before .before .before .before .before .before .args .t1 in
-    (search needs, among-more k (l .i) (l .soonest) (c .sooner-end .result) (l .inv .1) (rw (← c .before .sooner-start .ensures) (c .sooner-end .ensures)))
+    let l = c .before .before .before .before .before .before .before .loop in
+    let k = c .before .before .before .before .before .before .before .before .before .before .before .args .t1 in
+    (search needs, among-more k (l .i) (l .soonest) (c .sooner-end .result) (l .inv .1) (rw (← c .before .before .sooner-due .ensures, ← c .before .sooner-due2 .ensures) (c .sooner-end .ensures)))
 
 moment-of-requires : tie.Need-moment-of-requires Inv-loop μ-loop
 moment-of-requires c κs = search needs
@@ -63,7 +66,8 @@ next-event-spec =
     loop-holds
     mul-t
     element-copy-out-t
-    sooner-start-requires
+    sooner-due-requires
+    sooner-due-requires-2
     sooner-end-requires
     add-i
     loop-less

@@ -4,15 +4,15 @@ use Rattle.task.specs.Turns.{continueTurn}
 use Rattle.task.proofs.Task.go_on.Statement.{statement}
 use Rattle.task.proofs.Task.go_on.Tie as tie
 
-or-else-requires : tie.Need-or-else-requires
-or-else-requires c κs = search needs
+goes-on-requires : tie.Need-goes-on-requires
+goes-on-requires c κs = search needs
 
 unmarked-requires : tie.Need-unmarked-requires
 unmarked-requires c κs = search needs
 
 returns : tie.Need-returns
 unfolding continueTurn
-returns c = rw (c .unmarked .ensures, c .before .before .before .or-else .ensures)
+returns c = rw (c .unmarked .ensures, c .before .goes-on .ensures)
 
 pub go-on-spec : {M : Type 1} → statement M
-go-on-spec = tie.close (tie.spec or-else-requires unmarked-requires returns)
+go-on-spec = tie.close (tie.spec goes-on-requires unmarked-requires returns)

@@ -16,12 +16,15 @@ none-requires c κs = search needs
 with-schedule-requires : tie.Need-with-schedule-requires
 with-schedule-requires c κs = search needs
 
+dropped-requires : tie.Need-dropped-requires
+dropped-requires c κs = search needs
+
 marked-requires : tie.Need-marked-requires
 marked-requires c κs = search needs
 
 returns : tie.Need-returns
 unfolding preventTurn
-returns c = rw (c .marked .ensures, c .before .with-schedule .ensures, c .before .before .none .ensures, c .before .before .before .with-kept .ensures, c .before .before .before .before .is-back .ensures)
+returns c = rw (c .marked .ensures, c .before .dropped .ensures, c .before .before .with-schedule .ensures, c .before .before .before .none .ensures, c .before .before .before .before .with-kept .ensures, c .before .before .before .before .before .is-back .ensures)
 
 pub prevent-spec : {M : Type 1} → statement M
 prevent-spec =
@@ -31,5 +34,6 @@ prevent-spec =
     with-kept-requires
     none-requires
     with-schedule-requires
+    dropped-requires
     marked-requires
     returns)

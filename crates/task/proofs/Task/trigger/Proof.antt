@@ -1,36 +1,16 @@
--- By the test of the alarm.
+-- What the calls ensure.
 use borrow.Author.Needs.{needs}
-use Rattle.task.specs.Turns.{triggerTurn}
 use Rattle.task.proofs.Task.trigger.Statement.{statement}
 use Rattle.task.proofs.Task.trigger.Tie as tie
 
-listens-to-requires : tie.Need-listens-to-requires
-listens-to-requires c κs = search needs
+called-by-requires : tie.Need-called-by-requires
+called-by-requires c κs = search needs
 
-trigger-requires : tie.Need-trigger-requires
-trigger-requires c κs = search needs
-
-plan-requires : tie.Need-plan-requires
-plan-requires c κs = search needs
+start-by-requires : tie.Need-start-by-requires
+start-by-requires c κs = search needs
 
 returns : tie.Need-returns
-unfolding triggerTurn
-returns c = rw (← c .before .before .before .before .listens-to .ensures, c .before .before .before .if1 .taken, ← c .before .trigger .ensures) (c .plan .ensures)
-
-unmarked-requires : tie.Need-unmarked-requires
-unmarked-requires c κs = search needs
-
-returns-2 : tie.Need-returns-2
-unfolding triggerTurn
-returns-2 c = rw (← c .before .before .listens-to .ensures, c .before .if1 .left) (c .unmarked .ensures)
+returns c = rw (c .start-by .ensures, c .before .called-by .ensures)
 
 pub trigger-spec : {M : Type 1} → statement M
-trigger-spec =
-    tie.close
-    (tie.spec
-    listens-to-requires
-    trigger-requires
-    plan-requires
-    returns
-    unmarked-requires
-    returns-2)
+trigger-spec = tie.close (tie.spec called-by-requires start-by-requires returns)

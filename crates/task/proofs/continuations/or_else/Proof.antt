@@ -1,8 +1,8 @@
 -- By the test of the priority given.
 use borrow.Author.Needs.{needs}
 use Rattle.task.proofs.Laws.{given-taken}
-use Rattle.task.proofs.turns.or_else.Statement.{statement}
-use Rattle.task.proofs.turns.or_else.Tie as tie
+use Rattle.task.proofs.continuations.or_else.Statement.{statement}
+use Rattle.task.proofs.continuations.or_else.Tie as tie
 
 returns : tie.Need-returns
 returns c = search needs

@@ -1,8 +1,8 @@
 -- By whether it is to come.
 use borrow.Author.Needs.{needs}
 use mathlib.Core.Path.{sym, _∙_}
-use Rattle.survey.proofs.next.sooner_start.Statement.{statement}
-use Rattle.survey.proofs.next.sooner_start.Tie as tie
+use Rattle.survey.proofs.next.sooner_due.Statement.{statement}
+use Rattle.survey.proofs.next.sooner_due.Tie as tie
 
 is-pending-requires : tie.Need-is-pending-requires
 is-pending-requires c κs = search needs
@@ -16,5 +16,5 @@ returns c = rw (sym (c .before .before .is-pending .ensures) ∙ c .before .if1 
 returns-2 : tie.Need-returns-2
 returns-2 c = rw (sym (c .before .is-pending .ensures) ∙ c .if1 .left)
 
-pub sooner-start-spec : {M : Type 1} → statement M
-sooner-start-spec = tie.close (tie.spec is-pending-requires sooner-requires returns returns-2)
+pub sooner-due-spec : {M : Type 1} → statement M
+sooner-due-spec = tie.close (tie.spec is-pending-requires sooner-requires returns returns-2)
