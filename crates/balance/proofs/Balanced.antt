@@ -21,12 +21,12 @@ use Rattle.machine.specs.Sets.{Due, Started, Ended, Lost}
 use Rattle.machine.specs.State.{taskAt, freshTask}
 use Rattle.machine.specs.Running.{runningOf, runner}
 use Rattle.machine.specs.Step.{step}
-use Rattle.machine.specs.Log.{isDeclaration, final, log}
+use Rattle.machine.specs.Log.{AllOctets, isDeclaration, final, log}
 use Rattle.machine.specs.Invariants.{IsDay}
 use Rattle.machine.proofs.Below.{mostUrgent-none}
 use Rattle.machine.proofs.Facts.{StateOk, passes-of-ok, ok-of-passes}
 use Rattle.balance.specs.Counting.{count, accepted, namesOf, noNames, returned, Asking, askedAfter, grants, Open, noneOpen, asksNow, openAt, openAfter, GrantsOpen, openFrom}
-use Rattle.balance.specs.Fresh.{AllOctets, acceptedDeclaration, without}
+use Rattle.balance.specs.Fresh.{acceptedDeclaration, without}
 use Rattle.balance.specs.Balance.{RightStep, AtEachRecord, Balance}
 use Rattle.balance.proofs.Steps.{Invariant, StepBooks, step-books}
 

@@ -16,7 +16,7 @@ use Rattle.machine.specs.declared.Stepped.{Stepped}
 use Rattle.machine.specs.Running.{runner}
 use Rattle.machine.specs.Sorts.{declares}
 use Rattle.machine.specs.Step.{refuse, finish, orRefuse, carryOut, carryOn, step}
-use Rattle.machine.specs.Log.{isDeclaration, log}
+use Rattle.machine.specs.Log.{AllOctets, isDeclaration, log}
 use Rattle.machine.specs.Invariants.{IsDay}
 use Rattle.machine.proofs.Facts.{StateOk, passes-of-ok}
 use Rattle.machine.proofs.Passed.{refusalOf, passed}
@@ -24,7 +24,7 @@ use Rattle.machine.proofs.Opened.{opened-refused}
 use Rattle.machine.proofs.Cases.{done-number, carried-by, stepOpened, step-on}
 use Rattle.machine.proofs.Invariants.{step-ok}
 use Rattle.balance.specs.Counting.{accepted}
-use Rattle.balance.specs.Fresh.{AllOctets, acceptedDeclaration, without}
+use Rattle.balance.specs.Fresh.{acceptedDeclaration, without}
 
 -- What a step says of the first accepted call; d: its record is a declaration.
 pub record Begins (k : State) (d : Bool) (s : Stepped) : Type 0 where

@@ -23,7 +23,7 @@ use Rattle.machine.specs.Running.{runner}
 use Rattle.machine.specs.Sorts.{declares}
 use Rattle.machine.specs.Calls.{addTask, addSemaphore, addBolt, addInterrupt, declaration as declaredAs}
 use Rattle.machine.specs.Step.{refuse, declared, orRefuse, carryOut, step}
-use Rattle.machine.specs.Log.{isDeclaration, final, log}
+use Rattle.machine.specs.Log.{AllOctets, isDeclaration, final, log}
 use Rattle.machine.specs.Invariants.{IsDay}
 use Rattle.machine.proofs.Facts.{StateOk, bounded-of, passes-of-ok}
 use Rattle.machine.proofs.Passed.{refusalOf, Passed, passed, as-mark, room-task, room-bolt, room-interrupt}
@@ -31,7 +31,7 @@ use Rattle.machine.proofs.Opened.{opened-refused}
 use Rattle.machine.proofs.Cases.{done-number, declaration-cases, carried-by, stepOpened, step-on}
 use Rattle.machine.proofs.Invariants.{step-ok}
 use Rattle.balance.specs.Counting.{accepted}
-use Rattle.balance.specs.Fresh.{AllOctets, acceptedCall, without, DeclaredIsFresh}
+use Rattle.balance.specs.Fresh.{acceptedCall, without, DeclaredIsFresh}
 
 -- A kernel whose declared places are as their declarations left them.
 record Young (k : State) : Type 0 where

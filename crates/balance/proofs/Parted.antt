@@ -8,13 +8,13 @@ use Rattle.lock.proofs.Bools.{byBool, and-both, not-of-false}
 use Rattle.machine.specs.declared.State.{State}
 use Rattle.machine.specs.State.{nothing}
 use Rattle.machine.specs.Step.{step}
-use Rattle.machine.specs.Log.{isDeclaration, Entry, final, log}
+use Rattle.machine.specs.Log.{AllOctets, isDeclaration, Entry, final, log}
 use Rattle.machine.specs.Invariants.{IsDay}
 use Rattle.machine.proofs.Rows.{log-append, final-append}
 use Rattle.machine.proofs.Facts.{StateOk}
 use Rattle.machine.proofs.Invariants.{step-ok}
 use Rattle.balance.specs.Counting.{accepted}
-use Rattle.balance.specs.Fresh.{AllOctets, acceptedDeclaration, acceptedCall, without}
+use Rattle.balance.specs.Fresh.{acceptedDeclaration, acceptedCall, without}
 use Rattle.balance.specs.Balance.{AllParted}
 use Rattle.balance.proofs.Balanced.{balance}
 use Rattle.balance.proofs.Fresh.{nothing-ok, declared-is-fresh}

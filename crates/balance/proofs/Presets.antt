@@ -20,13 +20,13 @@ use Rattle.machine.specs.declared.State.{State}
 use Rattle.machine.specs.State.{nothing}
 use Rattle.machine.specs.Calls.{addTask, addSemaphore, addBolt, addInterrupt, declaration as declaredAs}
 use Rattle.machine.specs.Step.{refuse, declared, step}
-use Rattle.machine.specs.Log.{isDeclaration, final, log}
+use Rattle.machine.specs.Log.{AllOctets, isDeclaration, final, log}
 use Rattle.machine.specs.Invariants.{IsDay}
 use Rattle.machine.proofs.Facts.{StateOk}
 use Rattle.machine.proofs.Passed.{Passed, as-mark, room-semaphore}
 use Rattle.machine.proofs.Invariants.{step-ok}
 use Rattle.balance.specs.Counting.{accepted}
-use Rattle.balance.specs.Fresh.{AllOctets, acceptedCall, without, presetIn, presets, Preset, PresetsAreKept}
+use Rattle.balance.specs.Fresh.{acceptedCall, without, presetIn, presets, Preset, PresetsAreKept}
 use Rattle.balance.proofs.Fresh.{no-call, nothing-ok}
 
 end-at : (vs : List ℕ) (v : ℕ) → getD (vs ++ v ∷ []) (length vs) 0 ≡ v

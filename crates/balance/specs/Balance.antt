@@ -19,13 +19,13 @@ use Rattle.machine.specs.State.{taskAt, nothing}
 use Rattle.machine.specs.Granting.{servable}
 use Rattle.machine.specs.Test.{valid}
 use Rattle.machine.specs.Step.{step}
-use Rattle.machine.specs.Log.{Entry, final, log}
+use Rattle.machine.specs.Log.{AllOctets, Entry, final, log}
 use Rattle.machine.specs.Invariants.{IsDay}
 use Rattle.machine.specs.declared.State.{State}
 use Rattle.machine.specs.declared.Answer.{Answer}
 use Rattle.machine.specs.declared.Running.the-variants.{Idle}
 use Rattle.balance.specs.Counting.{count, accepted, returned, granted, noneOpen, GrantsOpen, openFrom}
-use Rattle.balance.specs.Fresh.{AllOctets, Fresh, acceptedDeclaration, acceptedCall, without, presets, Preset}
+use Rattle.balance.specs.Fresh.{Fresh, acceptedDeclaration, acceptedCall, without, presets, Preset}
 
 -- ---- sums over the log, from the fresh kernel k to the last kernel z
 

@@ -6,7 +6,6 @@ use Prim.Native.Nat.{ℕ, _<_}
 use lib.ListN.{length, getD}
 use Rattle.layout.specs.Marks.{is}
 use Rattle.record.specs.Reading.{opened}
-use Rattle.layout.specs.Fields.{Octets}
 use Rattle.layout.specs.declared.Mark.the-variants.{DS}
 use Rattle.record.specs.declared.Read.{Read}
 use Rattle.record.specs.declared.Read.the-variants.{Refused, Accepted}
@@ -14,15 +13,10 @@ use Rattle.lock.specs.Locks.{emptyBolt, boltAt, level}
 use Rattle.lock.specs.declared.Wait.the-variants.{Request}
 use Rattle.machine.specs.State.{taskAt, enabledAt, freshTask, nothing}
 use Rattle.machine.specs.Test.{valid}
-use Rattle.machine.specs.Log.{isDeclaration, Entry, final, log}
+use Rattle.machine.specs.Log.{AllOctets, isDeclaration, Entry, final, log}
 use Rattle.machine.specs.Invariants.{IsDay, Tables}
 use Rattle.machine.specs.declared.State.{State}
 use Rattle.balance.specs.Counting.{accepted}
-
--- Records are lists of bytes, of any length.
-unfoldable pub AllOctets : List (List ℕ) → Type 0
-AllOctets [] = Unit {0}
-AllOctets (r ∷ rs) = Octets r × AllOctets rs
 
 -- A fresh kernel.
 pub record Fresh (day : ℕ) (k : State) : Type 0 where

@@ -7,9 +7,8 @@ use lib.Seq.{getD-drop}
 use Rattle.calendar.specs.Limits.{day}
 use Rattle.layout.specs.Fields.{recordLength, Octets}
 use Rattle.machine.specs.State.{nothing}
-use Rattle.machine.specs.Log.{final}
+use Rattle.machine.specs.Log.{AllOctets, final}
 use Rattle.machine.proofs.Rows.{final-append}
-use Rattle.balance.specs.Fresh.{AllOctets}
 use Rattle.balance.proofs.Parted.{all-parted}
 use Rattle.script.specs.Records.{cut, records}
 use Rattle.script.specs.Script.{goingOn, Runs}

@@ -11,8 +11,8 @@ use Rattle.calendar.specs.Limits.{day}
 use Rattle.layout.specs.Fields.{FourPlaces, bytesOf}
 use Rattle.layout.specs.declared.Call.{Call}
 use Rattle.machine.specs.Test.{valid}
-use Rattle.machine.specs.Log.{Entry, final, log}
-use Rattle.balance.specs.Fresh.{AllOctets, Fresh, acceptedDeclaration, acceptedCall, without, presets, Preset}
+use Rattle.machine.specs.Log.{AllOctets, Entry, final, log}
+use Rattle.balance.specs.Fresh.{Fresh, acceptedDeclaration, acceptedCall, without, presets, Preset}
 use Rattle.balance.specs.Balance.{Sums, RightStep}
 use Rattle.kernel.specs.declared.Kernel.{Kernel}
 use Rattle.kernel.specs.declared.Reply.{Reply}

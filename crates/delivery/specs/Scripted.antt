@@ -8,8 +8,7 @@ use denote.Ref.{RefT}
 use Rattle.calendar.specs.Limits.{day}
 use Rattle.layout.specs.Fields.{Octets}
 use Rattle.machine.specs.State.{nothing}
-use Rattle.machine.specs.Log.{final, log}
-use Rattle.balance.specs.Fresh.{AllOctets}
+use Rattle.machine.specs.Log.{AllOctets, final, log}
 use Rattle.balance.specs.Balance.{Parted}
 use Rattle.kernel.specs.declared.Kernel.{Kernel}
 use Rattle.lines.specs.Buffers.{Wrote}

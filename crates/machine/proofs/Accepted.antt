@@ -13,6 +13,7 @@ use Rattle.layout.specs.declared.Call.{Call}
 use Rattle.lock.proofs.Bools.{byBool, byEq, contra}
 use Rattle.task.specs.State.{noTask, waitOver}
 use Rattle.task.specs.declared.Alarm.{Alarm}
+use Rattle.lock.specs.declared.Wait.the-variants.{Nothing}
 use Rattle.task.specs.declared.Task.{Task}
 use Rattle.task.specs.declared.Turn.{Turn}
 use Rattle.task.specs.Continuing.{Has, SameContinuation, SameHold, GoesOn, Called, Fires}
@@ -37,30 +38,16 @@ use Rattle.machine.proofs.Serving.{grant-at, grant-other, serve-keeps}
 -- ---- serving
 
 same-refl : (t : Task) → SameButWait t t
-same-refl t =
-    record { declared = refl; current = refl; alive = refl; kept = refl; len = refl; list = refl; hold = refl; schedule = refl; continuation = refl; given = refl; resumed = refl }
+same-refl t = (t .wait, refl)
 
 -- One more grant.
 same-grant : (t u : Task) → SameButWait t u → SameButWait t (waitOver u)
-same-grant t u h =
-    record {
-      declared = h .declared;
-      current = h .current;
-      alive = h .alive;
-      kept = h .kept;
-      len = h .len;
-      list = h .list;
-      hold = h .hold;
-      schedule = h .schedule;
-      continuation = h .continuation;
-      given = h .given;
-      resumed = h .resumed;
-    }
+same-grant t u h = (Nothing, ap waitOver (h .1))
 
 pub serving-keeps : ServingKeeps
 serving-keeps n turns p i =
     serve-keeps n (λ q. SameButWait (taskAt (p .tasks) i) (taskAt (q .tasks) i))
-    (λ q j l e h. byEq i j (λ z. rw (z, grant-at n q j e) (same-grant _ (taskAt (q .tasks) j) (rw z at h))) (λ z. rw (grant-other q j i z) h))
+    (λ q j l e h. byEq i j (λ z. rw (z, grant-at n q j e) (same-grant (taskAt (p .tasks) j) (taskAt (q .tasks) j) (rw z at h))) (λ z. rw (grant-other q j i z) h))
     turns p (same-refl (taskAt (p .tasks) i))
 
 -- So all but the waits is the work's.
@@ -70,28 +57,36 @@ finish-keeps k w i = serving-keeps (k .counts .tasks) (k .counts .tasks) _ i
 
 module _ (u v : Task) (h : SameButWait u v) where
   pub same-on : SameContinuation u v
-  same-on = record { alarm = h .continuation; given = h .given; resumed = h .resumed }
+  same-on =
+      record {
+        alarm = ap (λ (t : Task). t .continuation) (h .1);
+        given = ap (λ (t : Task). t .given) (h .1);
+        resumed = ap (λ (t : Task). t .resumed) (h .1);
+      }
+
+  pub held-on : SameHold u v
+  held-on = record { hold = ap (λ (t : Task). t .hold) (h .1); current = ap (λ (t : Task). t .current) (h .1) }
 
   pub has-on : {a : Alarm} {p : ℕ} {r : Bool} → Has a p r u → Has a p r v
-  has-on x = record { alarm = h .continuation ∙ x .alarm; given = h .given ∙ x .given; resumed = h .resumed ∙ x .resumed }
+  has-on x = record { alarm = same-on .alarm ∙ x .alarm; given = same-on .given ∙ x .given; resumed = same-on .resumed ∙ x .resumed }
 
   pub hold-on : {t : Task} → SameHold t u → SameHold t v
-  hold-on x = record { hold = h .hold ∙ x .hold; current = h .current ∙ x .current }
+  hold-on x = record { hold = held-on .hold ∙ x .hold; current = held-on .current ∙ x .current }
 
   pub goes-on : {p : ℕ} {t : Task} → GoesOn p t u → GoesOn p t v
-  goes-on x = record { goes = h .hold ∙ x .goes; taken = λ e. h .current ∙ x .taken e; idle = λ e. hold-on (x .idle e) }
+  goes-on x = record { goes = held-on .hold ∙ x .goes; taken = λ e. held-on .current ∙ x .taken e; idle = λ e. hold-on (x .idle e) }
 
   pub fires-on : {n : Instant} {t : Task} → Fires n t u → Fires n t v
-  fires-on x = record { goes = h .hold ∙ x .goes; taken = λ e d. h .current ∙ x .taken e d; idle = λ a e. h .current ∙ x .idle a e; leaves = leaves-on _ u v same-on (x .leaves) }
+  fires-on x = record { goes = held-on .hold ∙ x .goes; taken = λ e d. held-on .current ∙ x .taken e d; idle = λ a e. held-on .current ∙ x .idle a e; leaves = leaves-on _ u v same-on (x .leaves) }
 
   pub called-on : {n : Instant} {t : Task} → Called n t u → Called n t v
   called-on x =
       record {
         pends = λ d. has-on (x .pends d);
         holds = λ d a. hold-on (x .holds d a);
-        goes = λ d. h .hold ∙ x .goes d;
-        taken = λ d e. h .current ∙ x .taken d e;
-        idle = λ d a e. h .current ∙ x .idle d a e;
+        goes = λ d. held-on .hold ∙ x .goes d;
+        taken = λ d e. held-on .current ∙ x .taken d e;
+        idle = λ d a e. held-on .current ∙ x .idle d a e;
         leaves = λ d. leaves-on _ u v same-on (x .leaves d);
       }
 

@@ -39,7 +39,7 @@ use Rattle.machine.specs.Calls.{namedTurn, runnerTurn, changeOf, trigger
 use Rattle.machine.specs.Continuing.{SameButWait, Accepts, taskAfter, firstOf, CallsMake}
 use Rattle.machine.proofs.Passed.{passed}
 use Rattle.machine.proofs.Done.{runs}
-use Rattle.machine.proofs.Accepted.{same-on, has-on, hold-on, goes-on, called-on, task-ok, in-table, table, no-refusal, step-leaves, one-at, every-at}
+use Rattle.machine.proofs.Accepted.{same-on, held-on, has-on, hold-on, goes-on, called-on, task-ok, in-table, table, no-refusal, step-leaves, one-at, every-at}
 
 -- ---- a schedule asked for
 
@@ -78,7 +78,8 @@ asked day k h p r t u s =
     stays a e =
         let x = withContinuation a p r t in
         let w : SameButWait x u = subst (λ (y : Turn). SameButWait (y .task) u) e s in
-        (same-on x u w, record { hold = w .hold; current = w .current })
+        let q = held-on x u w in
+        (same-on x u w, record { hold = q .hold; current = q .current })
 
 -- ---- CONTINUE and RESUME
 

@@ -4,10 +4,10 @@ use mathlib.Core.Bool.{Bool, true, false, not, _&&_, _||_, or-true}
 use mathlib.Core.List.{List}
 use Prim.Native.Nat.{ℕ, _^_, _≤_, _<_}
 use native.Mathlib.Omega.{arith}
-use lib.Dec.{ltb, leb}
+use lib.Dec.{ltb}
 use lib.ListN.{length, set, length-set}
-use borrow.Author.Tests.{ltb-true, leb-true, not-true}
-use Rattle.calendar.specs.Limits.{longestDuration, lastInstant, isDuration}
+use borrow.Author.Tests.{ltb-true, not-true}
+use Rattle.calendar.specs.Limits.{lastInstant}
 use Rattle.calendar.specs.Times.{duration, plus}
 use Rattle.calendar.specs.declared.Instant.{Instant}
 use Rattle.layout.specs.Marks.{is, form}

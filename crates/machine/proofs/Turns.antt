@@ -1,6 +1,6 @@
 -- A task's turn keeps the limits of the kernel test.
 use mathlib.Core.Path.{_≡_, refl}
-use mathlib.Core.Bool.{Bool, true, false, not, _&&_, _||_}
+use mathlib.Core.Bool.{Bool, true, false, not, _||_}
 use Prim.Native.Nat.{ℕ, zero, suc, _≤_}
 use native.Mathlib.Omega.{arith}
 use lib.Dec.{ltb, leb, eqb}
@@ -27,6 +27,7 @@ use Rattle.task.specs.declared.Schedule.{Schedule}
 use Rattle.task.specs.declared.Task.{Task}
 use Rattle.task.specs.declared.Turn.{Turn}
 use Rattle.task.specs.Promises.{Fair}
+use Rattle.task.proofs.Dues.{continued-cases, spent-cases}
 use Rattle.task.proofs.Alike.{like-refl}
 use Rattle.task.proofs.Fairness.{rest-facts, fair-unmarked, fair-due, fair-end, fair-prevent, fair-suspend, fair-continue, fair-resume, fair-tick, fair-schedule, fair-trigger, fair-later, fair-rest}
 use Rattle.machine.specs.declared.Counts.{Counts}
@@ -232,19 +233,17 @@ module _ (day : ℕ) (n : Counts) where
   goes t q h = goes-parts (n .interrupts) (t .continuation) (t .given) q (h .continuation-ok)
 
   spent-in : (t : Task) → In t → In (spent t)
-  unfolding spent
   spent-in t h =
-      byBool (listening (t .continuation .plan) && not (t .resumed))
+      spent-cases In t
       (λ e. let q = both (listening (t .continuation .plan)) _ e .0 in
       let g = goes t (or-right (pending (t .continuation .plan)) _ q) h in
-      rw e (continuation-in _ _ _ t (goes-of (n .interrupts) _ (t .given) (rearmed-ok (n .interrupts) (t .continuation) (g .0) q) (g .1)) h))
-      (λ e. rw e (continuation-in _ 0 false t (unfold continuationOk in refl) h))
+      continuation-in _ _ _ t (goes-of (n .interrupts) _ (t .given) (rearmed-ok (n .interrupts) (t .continuation) (g .0) q) (g .1)) h)
+      (λ e. continuation-in _ 0 false t (unfold continuationOk in refl) h)
 
   continued-in : (t : Task) → pending (t .continuation .plan) ≡ true → In t → In (continued t)
-  unfolding continued
   continued-in t q h =
-      byBool (unheld (t .hold)) (λ e. rw e (spent-in t h))
-      (λ e. rw e (spent-in (goesOn (t .given) t) (goes-on-in (t .given) t (goes t (rw q) h .1) h)))
+      continued-cases In t (λ e. spent-in t h)
+      (λ e. spent-in (goesOn (t .given) t) (goes-on-in (t .given) t (goes t (rw q) h .1) h))
 
   continue-at-in : (m : Instant) (t : Task) → In t → In (continueAt m t)
   unfolding continueAt

@@ -195,7 +195,7 @@ module _ (day : ℕ) (k : State) (i : ℕ) (l : i < k .counts .tasks) where
       out-cases day k c (λ s. Stays (s .state)) (λ d. unfold declared in declared-stays c)
       (λ d. let w = workOf day k c in
       same-then (taskAt (k .tasks) i) (taskAt (w .tasks) i) _ (work-same day k v c (passed day k c z) i l (untouched k c i e) (sortOf (c .head .mark)) refl)
-      (same-on _ _ (finish-keeps k w i)))
+      (same-on (taskAt (w .tasks) i) (taskAt (finish k w .state .tasks) i) (finish-keeps k w i)))
 
   -- A call that was read is refused or carried out.
   read-stays : valid day k ≡ true → (c : Call)

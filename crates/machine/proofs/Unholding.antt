@@ -25,11 +25,11 @@ use Rattle.machine.specs.Test.{valid}
 use Rattle.machine.specs.Refusals.{refusalBy}
 use Rattle.machine.specs.Calls.{tick}
 use Rattle.machine.specs.Step.{finish, step}
-use Rattle.machine.specs.Log.{final, log}
+use Rattle.machine.specs.Log.{AllOctets, final, log}
 use Rattle.machine.specs.Invariants.{IsDay, Passes}
 use Rattle.machine.specs.Scripts.{row, oneTick}
 use Rattle.machine.specs.Quiet.{later}
-use Rattle.machine.specs.Continuing.{SameButWait, taskAfter, DueInTime, DueAfterTicks, EachOctets, PromiseKept}
+use Rattle.machine.specs.Continuing.{SameButWait, taskAfter, DueInTime, DueAfterTicks, PromiseKept}
 use Rattle.machine.proofs.Rows.{row-split, log-append, final-append}
 use Rattle.machine.proofs.Invariants.{step-passes}
 use Rattle.machine.proofs.Quiet.{still-valid, tick-step, ticks-are-quiet}
@@ -106,11 +106,11 @@ due-after-ticks day d k i x room v l e q n m =
 
 -- ---- after any list of records
 
-final-passes : (day : ℕ) → IsDay day → (k : State) → Passes day k → (rs : List (List ℕ)) → EachOctets rs → Passes day (final day k rs)
-unfolding final
+final-passes : (day : ℕ) → IsDay day → (k : State) → Passes day k → (rs : List (List ℕ)) → AllOctets rs → Passes day (final day k rs)
+unfolding final AllOctets
 final-passes day isDay k p [] o = p
 final-passes day isDay k p (r ∷ rs) o =
-    final-passes day isDay (step day k r .state) (step-passes day isDay k p r (o 0)) rs (λ j. o (suc j))
+    final-passes day isDay (step day k r .state) (step-passes day isDay k p r (o .0)) rs (o .1)
 
 final-declared : (day : ℕ) (k : State) (i : ℕ) → i < k .counts .tasks → (rs : List (List ℕ)) → i < final day k rs .counts .tasks
 unfolding final

@@ -5,14 +5,13 @@ use mathlib.Core.Logic.{_≢_}
 use mathlib.Core.Bool.{Bool, true, false, not, _&&_, _||_}
 use mathlib.Core.List.{List, [], _∷_, _++_}
 use Prim.Native.Nat.{ℕ, suc, _+_, _<_, _≤_}
-use lib.ListN.{length, getD}
+use lib.ListN.{length}
 use lib.Dec.{eqb}
 use Rattle.calendar.specs.Limits.{tick, lastInstant}
 use Rattle.calendar.specs.Times.{duration, plus}
 use Rattle.calendar.specs.Dues.{firstDue}
 use Rattle.calendar.specs.declared.Instant.{Instant}
 use Rattle.calendar.specs.declared.Moment.the-variants.{At}
-use Rattle.layout.specs.Fields.{Octets}
 use Rattle.layout.specs.Marks.{is}
 use Rattle.layout.specs.declared.Call.{Call}
 use Rattle.layout.specs.declared.Head.{Head}
@@ -21,6 +20,8 @@ use Rattle.record.specs.Refusals.{scheduled, onInterrupt}
 use Rattle.record.specs.Reading.{accepted, callWith, opened}
 use Rattle.record.specs.declared.Read.{Read}
 use Rattle.record.specs.declared.Read.the-variants.{Refused, Accepted}
+use Rattle.lock.specs.declared.Wait.{Wait}
+use Rattle.task.specs.State.{waitFor}
 use Rattle.task.specs.Alarms.{setFor, armed, startOf, falls, listens}
 use Rattle.task.specs.Coming.{nextOf}
 use Rattle.task.specs.Continuing.{Has, HasNone, SameContinuation, SameHold, GoesOn, Called, Fires}
@@ -34,26 +35,16 @@ use Rattle.machine.specs.Running.{runner}
 use Rattle.machine.specs.Serving.{Served, serve}
 use Rattle.machine.specs.Test.{valid}
 use Rattle.machine.specs.Step.{step}
-use Rattle.machine.specs.Log.{final, log}
+use Rattle.machine.specs.Log.{AllOctets, final, log}
 use Rattle.machine.specs.Invariants.{IsDay, Passes}
 use Rattle.machine.specs.Scripts.{row, oneTick}
 use Rattle.machine.specs.Quiet.{Quiet, later, quietTick}
 
 -- ---- serving
 
--- Of a task nothing has changed but its wait.
-pub record SameButWait (t u : Task) : Type 0 where
-  pub declared : u .declared ≡ t .declared
-  pub current : u .current ≡ t .current
-  pub alive : u .alive ≡ t .alive
-  pub kept : u .kept ≡ t .kept
-  pub len : u .len ≡ t .len
-  pub list : u .list ≡ t .list
-  pub hold : u .hold ≡ t .hold
-  pub schedule : u .schedule ≡ t .schedule
-  pub continuation : u .continuation ≡ t .continuation
-  pub given : u .given ≡ t .given
-  pub resumed : u .resumed ≡ t .resumed
+-- u is t with another wait.
+abbrev pub SameButWait : Task → Task → Type 0
+SameButWait t u = (w : Wait) × (u ≡ waitFor w (t .len) (t .list) t)
 
 -- Serving changes nothing else.
 abbrev pub ServingKeeps : Type 0
@@ -195,15 +186,11 @@ DueAfterTicks =
     → Quiet d k → k .now .0 + d + 1 ≡ x .0 → x .0 ≤ lastInstant
     → DueAfter day d k i x
 
--- Each record of a list is bytes.
-abbrev pub EachOctets : List (List ℕ) → Type 0
-EachOctets rs = (j : ℕ) → Octets (getD rs j [])
-
 -- The promise: a continuation that pends at x and that no record of a list disturbs comes due in the tick to x, as it was
 -- asked for.
 abbrev pub PromiseKept : Type 0
 PromiseKept =
-    (day : ℕ) → IsDay day → (k : State) → Passes day k → (rs : List (List ℕ)) → EachOctets rs
+    (day : ℕ) → IsDay day → (k : State) → Passes day k → (rs : List (List ℕ)) → AllOctets rs
     → (i : ℕ) (x : Instant) → i < k .counts .tasks → nextOf (taskAt (k .tasks) i .continuation) ≡ At x
     → undisturbed day i k rs ≡ true
     → let z = final day k rs in z .now .0 + 1 ≡ x .0 → x .0 ≤ lastInstant

@@ -2,6 +2,7 @@
 use mathlib.Core.List.{List, [], _∷_}
 use mathlib.Core.Bool.{Bool, false}
 use Prim.Native.Nat.{ℕ}
+use Rattle.layout.specs.Fields.{Octets}
 use Rattle.record.specs.declared.Read.{Read}
 use Rattle.record.specs.declared.Read.the-variants.{Refused, Accepted}
 use Rattle.machine.specs.declared.State.{State}
@@ -13,6 +14,11 @@ use Rattle.machine.specs.Step.{step}
 abbrev pub isDeclaration : Read → Bool
 isDeclaration (Refused n) = false
 isDeclaration (Accepted h) = declares (h .mark)
+
+-- Records are lists of bytes, of any length.
+unfoldable pub AllOctets : List (List ℕ) → Type 0
+AllOctets [] = Unit {0}
+AllOctets (r ∷ rs) = Octets r × AllOctets rs
 
 pub record Entry : Type 0 where
   pub bytes : List ℕ

@@ -1,5 +1,8 @@
 // Calls the methods as a program would, and prints their lines. stdout has the lines that document 01 gives.
 ghost use mathlib.Core.Path.{_≡_};
+ghost use lib.ListN.{set};
+ghost use Rattle.task.specs.Continuations.{withNext};
+ghost use Rattle.machine.specs.State.{taskAt, withState};
 use calendar::Duration;
 use calendar::End;
 use calendar::Instant;
@@ -225,7 +228,7 @@ fn alarm(plan: Plan, interrupt: u8, delay: u32, next: u64) -> Alarm
 
 // The kernel with another continuation of task 0.
 fn continuing(kernel: Kernel, continuation: Alarm) -> Kernel
-    ensures { λ r. ⌜ r .state .now ≡ kernel .state .now ⌝ }
+    ensures { λ r. ⌜ (let k = kernel .state in r .state ≡ withState (set (k .tasks) 0 (withNext continuation (taskAt (k .tasks) 0))) (k .locks) (k .enabled) k) ⌝ }
 {
     let mut k = kernel.state;
     let t = k.tasks[0];

@@ -4,9 +4,9 @@ ghost use mathlib.Core.Bool.{_||_};
 ghost use Rattle.record.specs.Refusals.{onInterrupt, atTime, afterDuration, needsPeriod};
 
 // The start kinds that wait for an interrupt.
-pub const WHEN: u8 = 3;
+const WHEN: u8 = 3;
 
-pub const WHEN_AFTER: u8 = 4;
+const WHEN_AFTER: u8 = 4;
 
 // Whether a start waits for an interrupt.
 pub fn is_on_interrupt(kind: u8) -> bool

@@ -1,6 +1,6 @@
 -- What a hold, a schedule or a continuation leaves of a task as it was: its life, the start kept back and its wait.
 use mathlib.Core.Path.{_≡_, refl, _∙_}
-use mathlib.Core.Bool.{Bool, true, not, _&&_}
+use mathlib.Core.Bool.{Bool}
 use Prim.Native.Nat.{ℕ}
 use Rattle.calendar.specs.declared.Instant.{Instant}
 use Rattle.lock.proofs.Bools.{byBool}
@@ -9,10 +9,11 @@ use Rattle.task.specs.declared.Hold.{Hold}
 use Rattle.task.specs.declared.Hold.the-variants.{Unheld}
 use Rattle.task.specs.declared.Schedule.{Schedule}
 use Rattle.task.specs.declared.Task.{Task}
-use Rattle.task.specs.State.{unheld, wanted, withHold, withSchedule, withContinuation}
-use Rattle.task.specs.Alarms.{listening, falls, listens}
+use Rattle.task.specs.State.{wanted, withHold, withSchedule, withContinuation}
+use Rattle.task.specs.Alarms.{falls, listens}
 use Rattle.task.specs.Continuations.{goesOn, spent, continued, continueAt, calledBy}
 use Rattle.task.specs.Turns.{delayEnds, wake}
+use Rattle.task.proofs.Dues.{continued-cases, spent-any}
 
 -- Of a task only what no set and no wait looks at has changed.
 pub record Like (t t′ : Task) : Type 0 where
@@ -45,16 +46,12 @@ pub like-goes-on : (p : ℕ) (t : Task) → Like t (goesOn p t)
 like-goes-on p t = record { alive = refl; kept = refl; wait = refl; len = refl; list = refl }
 
 like-spent : (t : Task) → Like t (spent t)
-unfolding spent
-like-spent t =
-    byBool (listening (t .continuation .plan) && not (t .resumed)) (λ e. rw e (like-continuation _ _ _ t))
-    (λ e. rw e (like-continuation _ _ _ t))
+like-spent t = spent-any (Like t) t (λ a p r. like-continuation a p r t)
 
 like-continued : (t : Task) → Like t (continued t)
-unfolding continued
 like-continued t =
-    byBool (unheld (t .hold)) (λ e. rw e (like-spent t))
-    (λ e. rw e (like-then t (goesOn (t .given) t) _ (like-goes-on (t .given) t) (like-spent (goesOn (t .given) t))))
+    continued-cases (Like t) t (λ e. like-spent t)
+    (λ e. like-then t (goesOn (t .given) t) _ (like-goes-on (t .given) t) (like-spent (goesOn (t .given) t)))
 
 pub like-continue-at : (n : Instant) (t : Task) → Like t (continueAt n t)
 unfolding continueAt
@@ -70,25 +67,3 @@ like-called n i t = byBool (listens i (t .continuation)) (λ e. rw e (like-later
 pub like-wake : (n : Instant) (t : Task) → Like t (wake n t)
 unfolding wake
 like-wake n t = byBool (delayEnds n (t .hold)) (λ e. rw e (like-hold Unheld t)) (λ e. rw e (like-refl t))
-
--- ---- a task that isn't held
-
--- Of a task only what has to do with a schedule or a continuation has changed.
-pub record Unmoved (t t′ : Task) : Type 0 where
-  pub like : Like t t′
-  pub hold : t′ .hold ≡ t .hold
-  pub current : t′ .current ≡ t .current
-
-unmoved-spent : (t : Task) → Unmoved t (spent t)
-unfolding spent
-unmoved-spent t =
-    byBool (listening (t .continuation .plan) && not (t .resumed))
-    (λ e. rw e (record { like = like-continuation _ _ _ t; hold = refl; current = refl }))
-    (λ e. rw e (record { like = like-continuation _ _ _ t; hold = refl; current = refl }))
-
--- With such a task a continuation does nothing.
-pub unmoved-continue-at : (n : Instant) (t : Task) → unheld (t .hold) ≡ true → Unmoved t (continueAt n t)
-unfolding continueAt continued
-unmoved-continue-at n t u =
-    byBool (falls n (t .continuation)) (λ e. rw (e, u) (unmoved-spent t))
-    (λ e. rw e (record { like = like-refl t; hold = refl; current = refl }))

@@ -1,6 +1,6 @@
 -- What a continuation does to its task when it comes due, when it first comes due, and what leaves it alone.
 use mathlib.Core.Path.{_≡_, refl, _∙_}
-use mathlib.Core.Bool.{Bool, true, false, not, _&&_, and-false}
+use mathlib.Core.Bool.{Bool, true, false, and-false}
 use Prim.Native.Nat.{ℕ, _+_}
 use native.Mathlib.Omega.{arith}
 use borrow.Author.Tests.{eq-eqb, ne-eqb}
@@ -15,12 +15,13 @@ use Rattle.task.specs.declared.Kept.the-variants.{Empty, Back}
 use Rattle.task.specs.declared.Schedule.{Schedule}
 use Rattle.task.specs.declared.Task.{Task}
 use Rattle.task.specs.State.{unheld, isKept, restOk, withCurrent, withHold, withSchedule, withContinuation}
-use Rattle.task.specs.Alarms.{listening, falls, listens, rearmed}
-use Rattle.task.specs.Continuations.{goesOn, withNext, dropped, spent, continued, continueAt, calledBy}
+use Rattle.task.specs.Alarms.{falls, listens}
+use Rattle.task.specs.Continuations.{goesOn, dropped, spent, continued, continueAt, calledBy}
 use Rattle.task.specs.Schedules.{advance}
 use Rattle.task.specs.Turns.{dueIf, dueTurn, endIf, preventTurn, suspendTurn, continueTurn, resumeTurn, delayEnds, wake, fallTurn, tickTurn, startTurn}
+use Rattle.task.proofs.Dues.{continued-cases, spent-any}
 use Rattle.task.proofs.Fairness.{rest-facts}
-use Rattle.task.specs.Continuing.{HasNone, SameContinuation, GoesOn, Leaves, SameElse, ComesDue, Later, OnInterrupt, Prevented, LeftAlone}
+use Rattle.task.specs.Continuing.{HasNone, SameContinuation, SameHold, GoesOn, Leaves, SameElse, ComesDue, Later, OnInterrupt, Prevented, LeftAlone}
 
 -- An unheld task's hold is none.
 pub unheld-is : (h : Hold) → unheld h ≡ true → h ≡ Unheld
@@ -36,24 +37,6 @@ pub same-then : (t u v : Task) → SameContinuation t u → SameContinuation u v
 same-then t u v h k = record { alarm = k .alarm ∙ h .alarm; given = k .given ∙ h .given; resumed = k .resumed ∙ h .resumed }
 
 -- ---- a due
-
--- It finds the task held or not.
-continued-cases : (P : Task → Type 0) (t : Task)
-    → (unheld (t .hold) ≡ true → P (spent t)) → (unheld (t .hold) ≡ false → P (spent (goesOn (t .given) t))) → P (continued t)
-unfolding continued
-continued-cases P t idle held = byBool (unheld (t .hold)) (λ e. rw e (idle e)) (λ e. rw e (held e))
-
--- It leaves one of two continuations.
-spent-cases : (P : Task → Type 0) (t : Task)
-    → ((listening (t .continuation .plan) && not (t .resumed)) ≡ true → P (withNext (rearmed (t .continuation)) t))
-    → ((listening (t .continuation .plan) && not (t .resumed)) ≡ false → P (dropped t)) → P (spent t)
-unfolding spent
-spent-cases P t again gone =
-    byBool (listening (t .continuation .plan) && not (t .resumed)) (λ e. rw e (again e)) (λ e. rw e (gone e))
-
--- And nothing else of the task changes.
-spent-any : (P : Task → Type 0) (t : Task) → ((a : Alarm) (p : ℕ) (r : Bool) → P (withContinuation a p r t)) → P (spent t)
-spent-any P t f = spent-cases P t (λ e. f _ _ _) (λ e. f _ _ _)
 
 pub goes : (t : Task) → GoesOn (t .given) t (continued t)
 goes t =
@@ -110,6 +93,12 @@ at-other n t e = rw e
 pub at-due : (n : Instant) (t : Task) → falls n (t .continuation) ≡ true → continueAt n t ≡ continued t
 unfolding continueAt
 at-due n t e = rw e
+
+-- One that finds its task unheld changes neither hold nor priority.
+pub at-idle : (n : Instant) (t : Task) → unheld (t .hold) ≡ true → SameHold t (continueAt n t)
+at-idle n t h =
+    byBool (falls n (t .continuation)) (λ e. rw (at-due n t e) (goes t .idle h))
+    (λ e. rw (at-other n t e) (record { hold = refl; current = refl }))
 
 pub later : Later
 unfolding continueAt

@@ -7,19 +7,19 @@ use Rattle.calendar.specs.declared.Instant.{Instant}
 use Rattle.lock.specs.Locks.{waiting}
 use Rattle.lock.proofs.Bools.{tests, byBool, contra}
 use Rattle.task.specs.declared.Alarm.{Alarm}
-use Rattle.task.specs.declared.Hold.{Hold}
-use Rattle.task.specs.declared.Hold.the-variants.{Unheld, Suspended, Delayed}
+use Rattle.task.specs.declared.Hold.the-variants.{Suspended, Delayed}
 use Rattle.task.specs.declared.Kept.{Kept}
 use Rattle.task.specs.declared.Kept.the-variants.{Empty, Back}
 use Rattle.task.specs.declared.Schedule.{Schedule}
 use Rattle.task.specs.declared.Task.{Task}
 use Rattle.task.specs.declared.Turn.{Turn}
-use Rattle.task.specs.State.{unheld, isKept, restOk, wanted, withHold, withSchedule, withContinuation}
-use Rattle.task.specs.Alarms.{listening, falls, listens, setOff}
+use Rattle.task.specs.State.{unheld, isKept, restOk, withHold, withSchedule, withContinuation}
+use Rattle.task.specs.Alarms.{falls, listens, setOff}
 use Rattle.task.specs.Schedules.{advance, triggered}
-use Rattle.task.specs.Continuations.{goesOn, withNext, spent, continued, continueAt, calledBy}
+use Rattle.task.specs.Continuations.{goesOn, withNext, continued, continueAt, calledBy}
 use Rattle.task.specs.Promises.{Fair, TurnsAreFair}
-use Rattle.task.proofs.Alike.{Like, like-wants, like-refl, like-hold, like-schedule, like-then, like-continuation, like-goes-on, like-continue-at, like-later, like-called, like-wake}
+use Rattle.task.proofs.Dues.{continued-cases, spent-any}
+use Rattle.task.proofs.Alike.{Like, like-wants, like-refl, like-hold, like-schedule, like-then, like-continuation, like-goes-on, like-continue-at, like-later, like-wake}
 use Rattle.task.specs.Turns.{unmarked, dueIf, dueTurn, endIf, endTurn, preventTurn, suspendTurn, continueTurn, resumeTurn, delayEnds, wake, fallTurn, tickTurn, scheduleTurn, startTurn, triggerTurn, laterTurn, restTurn}
 
 pub rest-facts : (a k w h : Bool) → (a || (not k && not w && h)) ≡ true → a ≡ false → (k ≡ false) × (w ≡ false) × (h ≡ true)
@@ -135,15 +135,12 @@ rests-then t u v h k = record { like = like-then t u v (h .like) (k .like); hold
 rests-wake : (n : Instant) (t : Task) → Rests t (wake n t)
 rests-wake n t = record { like = like-wake n t; holds = λ e. unfold wake in byBool (delayEnds n (t .hold)) (λ d. rw d) (λ d. rw d e) }
 
-spent-holds : (t : Task) → spent t .hold ≡ t .hold
-unfolding spent
-spent-holds t = byBool (listening (t .continuation .plan) && not (t .resumed)) (λ e. rw e) (λ e. rw e)
-
 continued-unheld : (t : Task) → unheld (continued t .hold) ≡ true
-unfolding continued
 continued-unheld t =
-    byBool (unheld (t .hold)) (λ e. rw (e, spent-holds t) e)
-    (λ e. rw (e, spent-holds (goesOn (t .given) t)))
+    continued-cases Free t (λ e. spent-any Free t (λ a p r. e)) (λ e. spent-any Free (goesOn (t .given) t) (λ a p r. refl))
+  where
+    Free : Task → Type 0
+    Free u = unheld (u .hold) ≡ true
 
 pub rests-continue-at : (n : Instant) (t : Task) → Rests t (continueAt n t)
 rests-continue-at n t =

@@ -16,7 +16,7 @@ use Rattle.task.specs.Continuations.{withNext, continued, continueAt}
 use Rattle.task.specs.Turns.{dueIf, delayEnds, wake, fallTurn, tickTurn, startTurn, triggerTurn}
 use Rattle.task.specs.Continuing.{SameContinuation, SameHold, Leaves, Fires, Called, Turned, DelayFirst}
 use Rattle.task.proofs.Alike.{like-continue-at, like-wake}
-use Rattle.task.proofs.Continuing.{goes, leaves, else, rest-unheld, at-due, at-other, on-interrupt, fall-cases, fall-same, start-cases, start-same, wake-same}
+use Rattle.task.proofs.Continuing.{goes, leaves, else, rest-unheld, at-due, at-idle, on-interrupt, fall-cases, fall-same, start-cases, start-same, wake-same}
 
 -- ---- a start that comes with it
 
@@ -100,12 +100,6 @@ kin t w h =
 -- A held task lives.
 held-lives : (t : Task) → restOk t ≡ true → unheld (t .hold) ≡ false → t .alive ≡ true
 held-lives t r h = byBool (t .alive) (λ a. a) (λ a. contra (rest-unheld t r a) h)
-
--- A continuation that finds its task unheld changes neither hold nor priority.
-at-idle : (n : Instant) (t : Task) → unheld (t .hold) ≡ true → SameHold t (continueAt n t)
-at-idle n t h =
-    byBool (falls n (t .continuation)) (λ e. rw (at-due n t e) (goes t .idle h))
-    (λ e. rw (at-other n t e) (record { hold = refl; current = refl }))
 
 asleep : (n : Instant) (t : Task) → delayEnds n (t .hold) ≡ false → wake n t ≡ t
 unfolding wake

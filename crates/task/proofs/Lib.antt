@@ -1,4 +1,5 @@
 -- Laws of one task's turn.
+pub mod Dues
 pub mod Alike
 pub mod Fairness
 pub mod Triggers

@@ -1,5 +1,5 @@
 -- One task's continuation: what CONTINUE and RESUME on a schedule leave with it, and what it does when it comes due (request 1).
-use mathlib.Core.Bool.{Bool, true, false, not, cond, _&&_}
+use mathlib.Core.Bool.{false, not, cond, _&&_}
 use Prim.Native.Nat.{ℕ, zero, suc}
 use Rattle.calendar.specs.declared.Instant.{Instant}
 use Rattle.task.specs.declared.Alarm.{Alarm}

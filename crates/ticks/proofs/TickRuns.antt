@@ -18,7 +18,8 @@ use Rattle.task.specs.Alarms.{falls}
 use Rattle.task.specs.Schedules.{advance}
 use Rattle.task.specs.Continuations.{continueAt}
 use Rattle.task.specs.Turns.{dueIf, delayEnds, wake, fallTurn, tickTurn}
-use Rattle.task.proofs.Alike.{unmoved-continue-at}
+use Rattle.task.proofs.Alike.{like-continue-at}
+use Rattle.task.proofs.Continuing.{at-idle}
 use Rattle.task.specs.declared.Hold.{Hold}
 use Rattle.task.specs.declared.Hold.the-variants.{Unheld, Suspended, Delayed}
 use Rattle.task.specs.declared.Kept.{Kept}
@@ -117,8 +118,9 @@ pub runs-on : (n : Instant) (t : Task) → runnable t ≡ true → (runnable (ti
 unfolding wake
 runs-on n t e =
     let u = both (t .alive) (unheld (t .hold)) (both (t .alive && unheld (t .hold)) (not (waiting (t .wait))) e .0) .1 in
-    let m = unmoved-continue-at n t u in
-    let f = fall-on n (continueAt n t) (rw (m .like .alive, m .hold, m .like .wait) e) in
+    let l = like-continue-at n t in
+    let m = at-idle n t u in
+    let f = fall-on n (continueAt n t) (rw (l .alive, m .hold, l .wait) e) in
     rw (awake n (t .hold) u) (f .0, f .1 ∙ m .current)
 
 -- ---- a table, and who leads of those of its first c tasks that can run
