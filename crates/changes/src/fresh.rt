@@ -11,10 +11,10 @@ use machine::Counts;
 use machine::MOST_INTERRUPTS;
 use machine::MOST_TASKS;
 use machine::State;
-use task::Alarm;
+use schedule::Alarm;
+use schedule::Schedule;
 use task::Hold;
 use task::Kept;
-use task::Schedule;
 use task::Task;
 
 // A task just declared: not alive, at its own priority, without a schedule or a continuation.

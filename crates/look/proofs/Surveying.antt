@@ -9,7 +9,8 @@ use Rattle.calendar.specs.declared.Instant.{Instant}
 use Rattle.calendar.specs.declared.Moment.{Moment}
 use Rattle.calendar.specs.declared.Moment.the-variants.{Never}
 use Rattle.lock.proofs.Bools.{byBool}
-use Rattle.task.specs.Coming.{delayEnd, nextOf}
+use Rattle.schedule.specs.Coming.{nextOf}
+use Rattle.task.specs.Coming.{delayEnd}
 use Rattle.task.specs.declared.Task.{Task}
 use Rattle.machine.specs.State.{mostTasks, taskAt}
 use Rattle.machine.specs.NextEvent.{nextEvent}

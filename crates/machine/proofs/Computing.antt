@@ -9,8 +9,8 @@ use Rattle.record.specs.Lists.{allZero, names, distinct}
 use Rattle.record.specs.Refusals.{uses, cleanNames, cleanStart, ranged, formed, listed, endTimed, firstTimed, startTimed, resumeTimed, timed, shape, times}
 use Rattle.record.specs.Reading.{opened}
 use Rattle.lock.specs.Locks.{level, canMove, moveOne, every, forEach}
-use Rattle.task.specs.Alarms.{alarmOf}
-use Rattle.task.specs.Schedules.{advance, lastOf}
+use Rattle.schedule.specs.Alarms.{alarmOf}
+use Rattle.schedule.specs.Schedules.{advance, lastOf}
 use Rattle.task.specs.Continuations.{spent, continued, continueAt, calledBy}
 use Rattle.task.specs.Turns.{dueIf, endIf, preventTurn, suspendTurn, continueTurn, resumeTurn, wake, fallTurn, startTurn}
 use Rattle.machine.specs.declared.Answer.{Answer}

@@ -16,11 +16,11 @@ use Rattle.layout.specs.declared.Mark.the-variants.{PR, CO, RE, TG}
 use Rattle.record.specs.Refusals.{scheduled, onInterrupt}
 use Rattle.lock.proofs.Bools.{byBool, byEq, both}
 use Rattle.task.specs.State.{withHold, withContinuation}
-use Rattle.task.specs.declared.Alarm.{Alarm}
+use Rattle.schedule.specs.declared.Alarm.{Alarm}
 use Rattle.task.specs.declared.Hold.the-variants.{Suspended}
 use Rattle.task.specs.declared.Task.{Task}
 use Rattle.task.specs.declared.Turn.{Turn}
-use Rattle.task.specs.Alarms.{setFor, armed, alarmOf}
+use Rattle.schedule.specs.Alarms.{setFor, armed, alarmOf}
 use Rattle.task.specs.Continuations.{continued}
 use Rattle.task.specs.Turns.{unmarked, preventTurn, triggerTurn, laterTurn}
 use Rattle.task.specs.Continuing.{Has, HasNone, SameHold, GoesOn}

@@ -9,11 +9,11 @@ use Rattle.calendar.specs.Limits.{day, lastInstant}
 use Rattle.calendar.specs.Times.{instant, duration}
 use Rattle.calendar.specs.declared.End.the-variants.{Until}
 use Rattle.calendar.specs.declared.Moment.the-variants.{At}
-use Rattle.task.specs.State.{noSchedule}
+use Rattle.schedule.specs.Schedules.{noSchedule}
 use Rattle.task.specs.declared.Kept.{Kept}
 use Rattle.task.specs.declared.Kept.the-variants.{Empty, Back}
-use Rattle.task.specs.declared.Plan.the-variants.{Clock}
-use Rattle.task.specs.declared.Schedule.{Schedule}
+use Rattle.schedule.specs.declared.Plan.the-variants.{Clock}
+use Rattle.schedule.specs.declared.Schedule.{Schedule}
 use Rattle.task.specs.declared.Task.{Task}
 use Rattle.machine.specs.declared.Answer.{Answer}
 use Rattle.machine.specs.declared.Running.the-variants.{Idle, Runs}

@@ -5,7 +5,7 @@ use mathlib.Core.List.{List, [], _∷_, _++_}
 use Prim.Native.Nat.{ℕ, _+_, _-_, _≤_, _^_}
 use native.Mathlib.Omega.{arith}
 use Rattle.calendar.specs.Limits.{day, lastInstant}
-use Rattle.task.specs.State.{noSchedule}
+use Rattle.schedule.specs.Schedules.{noSchedule}
 use Rattle.task.specs.declared.Kept.the-variants.{Empty}
 use Rattle.task.specs.declared.Task.{Task}
 use Rattle.machine.specs.declared.State.{State}

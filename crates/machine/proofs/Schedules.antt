@@ -16,10 +16,10 @@ use Rattle.calendar.proofs.Bounds.{ShortStart, ShortEnd, Within, first-within, 
 use Rattle.record.specs.Refusals.{Used, onInterrupt, atTime, afterDuration, start, orZero, cleanStart, ranged, endTimed, firstTimed, startTimed, startFormed}
 use Rattle.layout.specs.declared.Head.{Head}
 use Rattle.lock.proofs.Bools.{byBool, byEq, contra, both, and-both, or-then, then-or, or-right}
-use Rattle.task.specs.Alarms.{pending, listening, planned, comingAt, rearmed, setOff, startOf, alarmOf}
-use Rattle.task.specs.Schedules.{withAlarm, advanced, advance, lastOf, begun, triggered}
-use Rattle.task.specs.declared.Alarm.{Alarm}
-use Rattle.task.specs.declared.Schedule.{Schedule}
+use Rattle.schedule.specs.Alarms.{pending, listening, planned, comingAt, rearmed, setOff, startOf, alarmOf}
+use Rattle.schedule.specs.Schedules.{withAlarm, advanced, advance, lastOf, begun, triggered}
+use Rattle.schedule.specs.declared.Alarm.{Alarm}
+use Rattle.schedule.specs.declared.Schedule.{Schedule}
 use Rattle.machine.specs.Test.{mostPriority, isPriority, isStored, endOk, momentOk, listenerOk, alarmOk, lastOk, termsOk, scheduleOk, continuationOk}
 use Rattle.machine.specs.Activation.{endOf, scheduleOf}
 use Rattle.machine.specs.Invariants.{IsDay}

@@ -13,17 +13,17 @@ use Rattle.layout.specs.declared.Form.the-variants.{Continuation, Resumption}
 use Rattle.layout.specs.declared.Head.{Head}
 use Rattle.lock.specs.Locks.{waiting}
 use Rattle.lock.proofs.Bools.{byBool, contra, both, and-both, or-right}
-use Rattle.task.specs.State.{unheld, isKept, noSchedule, withKept, withHold, withCurrent, withSchedule, withContinuation}
-use Rattle.task.specs.Alarms.{pending, listening, planned, falls, listens}
-use Rattle.task.specs.Schedules.{advance, triggered}
+use Rattle.task.specs.State.{unheld, isKept, withKept, withHold, withCurrent, withSchedule, withContinuation}
+use Rattle.schedule.specs.Alarms.{pending, listening, planned, falls, listens}
+use Rattle.schedule.specs.Schedules.{noSchedule, advance, triggered}
 use Rattle.task.specs.Continuations.{orElse, goesOn, dropped, spent, continued, continueAt, calledBy}
 use Rattle.task.specs.Turns.{unmarked, running, terminated, dueIf, dueTurn, endIf, endTurn, preventTurn, suspendTurn, continueTurn, resumeTurn, delayEnds, wake, fallTurn, tickTurn, scheduleTurn, startTurn, triggerTurn, laterTurn, restTurn}
-use Rattle.task.specs.declared.Alarm.{Alarm}
+use Rattle.schedule.specs.declared.Alarm.{Alarm}
 use Rattle.task.specs.declared.Hold.{Hold}
 use Rattle.task.specs.declared.Hold.the-variants.{Unheld, Suspended, Delayed}
 use Rattle.task.specs.declared.Kept.{Kept}
 use Rattle.task.specs.declared.Kept.the-variants.{Empty, Back}
-use Rattle.task.specs.declared.Schedule.{Schedule}
+use Rattle.schedule.specs.declared.Schedule.{Schedule}
 use Rattle.task.specs.declared.Task.{Task}
 use Rattle.task.specs.declared.Turn.{Turn}
 use Rattle.task.specs.Promises.{Fair}

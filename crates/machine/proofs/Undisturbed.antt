@@ -23,7 +23,7 @@ use Rattle.lock.specs.declared.Locks.{Locks}
 use Rattle.lock.specs.declared.Wait.{Wait}
 use Rattle.lock.proofs.Bools.{byBool, byEq, contra, both, neither}
 use Rattle.task.specs.State.{noTask, waitFor}
-use Rattle.task.specs.Alarms.{falls, listens}
+use Rattle.schedule.specs.Alarms.{falls, listens}
 use Rattle.task.specs.Continuing.{SameContinuation}
 use Rattle.task.specs.Turns.{tickTurn}
 use Rattle.task.specs.declared.Task.{Task}

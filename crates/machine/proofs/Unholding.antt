@@ -13,10 +13,10 @@ use Rattle.calendar.specs.declared.Moment.the-variants.{At}
 use Rattle.layout.specs.Fields.{callOf}
 use Rattle.layout.specs.declared.Mark.the-variants.{TI}
 use Rattle.lock.proofs.Bools.{byBool}
-use Rattle.task.specs.Alarms.{pending, falls}
-use Rattle.task.specs.Coming.{nextOf}
+use Rattle.schedule.specs.Alarms.{pending, falls}
+use Rattle.schedule.specs.Coming.{nextOf}
 use Rattle.task.specs.Turns.{tickTurn}
-use Rattle.task.specs.declared.Alarm.{Alarm}
+use Rattle.schedule.specs.declared.Alarm.{Alarm}
 use Rattle.task.specs.declared.Task.{Task}
 use Rattle.task.proofs.Firing.{turned}
 use Rattle.machine.specs.declared.State.{State}

@@ -10,11 +10,11 @@ use Rattle.calendar.specs.Limits.{day, lastInstant}
 use Rattle.calendar.specs.Times.{instant}
 use Rattle.lock.specs.Locks.{emptyBolt}
 use Rattle.lock.specs.declared.Wait.the-variants.{Nothing}
-use Rattle.task.specs.State.{noAlarm}
+use Rattle.schedule.specs.Alarms.{noAlarm}
 use Rattle.task.specs.Coming.{comes}
 use Rattle.task.specs.declared.Hold.the-variants.{Unheld}
 use Rattle.task.specs.declared.Kept.{Kept}
-use Rattle.task.specs.declared.Schedule.{Schedule}
+use Rattle.schedule.specs.declared.Schedule.{Schedule}
 use Rattle.task.specs.declared.Task.{Task}
 use Rattle.machine.specs.declared.State.{State}
 use Rattle.machine.specs.declared.Answer.{Answer}

@@ -7,12 +7,12 @@ use Rattle.calendar.specs.declared.Instant.{Instant}
 use Rattle.calendar.specs.declared.End.{End}
 use Rattle.calendar.specs.declared.End.the-variants.{Open, Until, During}
 use Rattle.layout.specs.declared.Head.{Head}
-use Rattle.task.specs.Alarms.{alarmOf}
-use Rattle.task.specs.Schedules.{begun}
+use Rattle.schedule.specs.Alarms.{alarmOf}
+use Rattle.schedule.specs.Schedules.{begun}
 use Rattle.task.specs.Continuations.{orElse}
 use Rattle.task.specs.Turns.{dueTurn, scheduleTurn, continueTurn, resumeTurn, laterTurn, restTurn}
-use Rattle.task.specs.declared.Alarm.{Alarm}
-use Rattle.task.specs.declared.Schedule.{Schedule}
+use Rattle.schedule.specs.declared.Alarm.{Alarm}
+use Rattle.schedule.specs.declared.Schedule.{Schedule}
 use Rattle.task.specs.declared.Task.{Task}
 use Rattle.task.specs.declared.Turn.{Turn}
 

@@ -3,7 +3,7 @@
 use mathlib.Core.Path.{_≡_}
 use mathlib.Core.List.{List, [], _∷_, _++_}
 use Prim.Native.Nat.{ℕ}
-use Rattle.task.specs.State.{noAlarm}
+use Rattle.schedule.specs.Alarms.{noAlarm}
 use Rattle.machine.specs.declared.Answer.{Answer}
 use Rattle.machine.specs.declared.Running.the-variants.{Idle, Runs}
 use Rattle.machine.specs.State.{taskAt}

@@ -9,7 +9,9 @@ use Rattle.lock.specs.Locks.{mostLocks, emptyBolt}
 use Rattle.lock.specs.declared.Wait.{Wait}
 use Rattle.lock.specs.declared.Wait.the-variants.{Nothing, Request, Reserve, Enter}
 use Rattle.lock.specs.declared.Locks.{Locks}
-use Rattle.task.specs.State.{noTask, noAlarm, noSchedule}
+use Rattle.schedule.specs.Alarms.{noAlarm}
+use Rattle.schedule.specs.Schedules.{noSchedule}
+use Rattle.task.specs.State.{noTask}
 use Rattle.task.specs.declared.Hold.the-variants.{Unheld}
 use Rattle.task.specs.declared.Kept.the-variants.{Empty}
 use Rattle.task.specs.declared.Task.{Task}

@@ -12,10 +12,10 @@ use kernel::Reply;
 use kernel::StartCondition;
 use lines::line_at;
 use machine::Answer;
+use schedule::Alarm;
+use schedule::Plan;
+use schedule::Schedule;
 use serving::ends::plain;
-use task::Alarm;
-use task::Plan;
-use task::Schedule;
 use task::Task;
 
 fn print_line(a: Answer) {

@@ -9,7 +9,8 @@ use Rattle.calendar.specs.Moments.{sooner, firstAfter}
 use Rattle.calendar.specs.declared.Instant.{Instant}
 use Rattle.calendar.specs.declared.Moment.{Moment}
 use Rattle.calendar.specs.declared.Moment.the-variants.{Never, At}
-use Rattle.task.specs.Coming.{delayEnd, nextOf}
+use Rattle.schedule.specs.Coming.{nextOf}
+use Rattle.task.specs.Coming.{delayEnd}
 use Rattle.machine.specs.State.{taskAt}
 use Rattle.machine.specs.NextEvent.{allPending, nextEvent}
 use Rattle.machine.specs.declared.State.{State}

@@ -11,14 +11,15 @@ use Rattle.lock.specs.declared.Wait.{Wait}
 use Rattle.lock.specs.declared.Wait.the-variants.{Nothing, Request, Reserve, Enter}
 use Rattle.lock.proofs.Bools.{contra, neither}
 use Rattle.task.specs.State.{unheld, isKept, runnable, wanted}
-use Rattle.task.specs.Alarms.{pending, planned}
-use Rattle.task.specs.Coming.{delayEnd, nextOf}
-use Rattle.task.specs.declared.Alarm.{Alarm}
+use Rattle.schedule.specs.Alarms.{pending, planned}
+use Rattle.schedule.specs.Coming.{nextOf}
+use Rattle.task.specs.Coming.{delayEnd}
+use Rattle.schedule.specs.declared.Alarm.{Alarm}
 use Rattle.task.specs.declared.Hold.{Hold}
 use Rattle.task.specs.declared.Hold.the-variants.{Unheld, Suspended, Delayed}
 use Rattle.task.specs.declared.Kept.{Kept}
 use Rattle.task.specs.declared.Kept.the-variants.{Empty, Back}
-use Rattle.task.specs.declared.Schedule.{Schedule}
+use Rattle.schedule.specs.declared.Schedule.{Schedule}
 use Rattle.task.specs.declared.Task.{Task}
 use Rattle.machine.specs.Granting.{couldBeGranted}
 use Rattle.machine.specs.Test.{mostPriority, isPriority, keptOk, holdOk, alarmOk, scheduleOk, continuationOk, taskOk}

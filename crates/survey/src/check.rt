@@ -9,7 +9,7 @@ ghost use Rattle.lock.specs.Locks.{every};
 ghost use Rattle.task.specs.declared.Task.{Task};
 ghost use Rattle.survey.specs.Looks.{atEase, waitSettled, busyOk};
 ghost use Rattle.calendar.specs.Limits.{day};
-ghost use Rattle.task.specs.Alarms.{planned};
+ghost use Rattle.schedule.specs.Alarms.{planned};
 ghost use Rattle.machine.specs.State.{countOf};
 ghost use Rattle.machine.specs.Test.{mostPriority, isPriority, isStored, holdOk, keptOk, endOk, momentOk, listenerOk, alarmOk, lastOk, termsOk, scheduleOk, continuationOk, countsOk};
 use crate::granting::Asker;
@@ -31,11 +31,11 @@ use machine::Counts;
 use machine::MOST_INTERRUPTS;
 use machine::MOST_TASKS;
 use record::lists::is_distinct;
-use task::Alarm;
+use schedule::Alarm;
+use schedule::Plan;
+use schedule::Schedule;
 use task::Hold;
 use task::Kept;
-use task::Plan;
-use task::Schedule;
 use task::Task;
 
 fn is_stored(n: Instant) -> bool

@@ -3,14 +3,15 @@ ghost use mathlib.Core.Path.{_≡_};
 ghost use Prim.Native.Nat.{_≤_};
 ghost use Rattle.calendar.specs.Moments.{sooner};
 ghost use Rattle.calendar.specs.declared.Moment.{Moment};
-ghost use Rattle.task.specs.Coming.{delayEnd, nextOf};
+ghost use Rattle.schedule.specs.Coming.{nextOf};
+ghost use Rattle.task.specs.Coming.{delayEnd};
 ghost use Rattle.machine.specs.State.{mostTasks};
 ghost use Rattle.machine.specs.NextEvent.{nextEvent};
 ghost use Rattle.survey.specs.Next.{momentOf};
 use calendar::Instant;
 use calendar::Moment;
 use machine::State;
-use task::Alarm;
+use schedule::Alarm;
 use task::Hold;
 
 // The earlier of s and n, where n is later than now.

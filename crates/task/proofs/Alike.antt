@@ -4,13 +4,13 @@ use mathlib.Core.Bool.{Bool}
 use Prim.Native.Nat.{ℕ}
 use Rattle.calendar.specs.declared.Instant.{Instant}
 use Rattle.lock.proofs.Bools.{byBool}
-use Rattle.task.specs.declared.Alarm.{Alarm}
+use Rattle.schedule.specs.declared.Alarm.{Alarm}
+use Rattle.schedule.specs.declared.Schedule.{Schedule}
+use Rattle.schedule.specs.Alarms.{falls, listens}
 use Rattle.task.specs.declared.Hold.{Hold}
 use Rattle.task.specs.declared.Hold.the-variants.{Unheld}
-use Rattle.task.specs.declared.Schedule.{Schedule}
 use Rattle.task.specs.declared.Task.{Task}
 use Rattle.task.specs.State.{wanted, withHold, withSchedule, withContinuation}
-use Rattle.task.specs.Alarms.{falls, listens}
 use Rattle.task.specs.Continuations.{goesOn, spent, continued, continueAt, calledBy}
 use Rattle.task.specs.Turns.{delayEnds, wake}
 use Rattle.task.proofs.Dues.{continued-cases, spent-any}

@@ -7,17 +7,17 @@ use borrow.Author.Tests.{eq-eqb, ne-eqb}
 use Rattle.calendar.specs.declared.Instant.{Instant}
 use Rattle.lock.specs.Locks.{waiting}
 use Rattle.lock.proofs.Bools.{byBool, contra}
-use Rattle.task.specs.declared.Alarm.{Alarm}
+use Rattle.schedule.specs.declared.Alarm.{Alarm}
+use Rattle.schedule.specs.declared.Schedule.{Schedule}
+use Rattle.schedule.specs.Alarms.{falls, listens}
+use Rattle.schedule.specs.Schedules.{advance}
 use Rattle.task.specs.declared.Hold.{Hold}
 use Rattle.task.specs.declared.Hold.the-variants.{Unheld, Suspended, Delayed}
 use Rattle.task.specs.declared.Kept.{Kept}
 use Rattle.task.specs.declared.Kept.the-variants.{Empty, Back}
-use Rattle.task.specs.declared.Schedule.{Schedule}
 use Rattle.task.specs.declared.Task.{Task}
 use Rattle.task.specs.State.{unheld, isKept, restOk, withCurrent, withHold, withSchedule, withContinuation}
-use Rattle.task.specs.Alarms.{falls, listens}
 use Rattle.task.specs.Continuations.{goesOn, dropped, spent, continued, continueAt, calledBy}
-use Rattle.task.specs.Schedules.{advance}
 use Rattle.task.specs.Turns.{dueIf, dueTurn, endIf, preventTurn, suspendTurn, continueTurn, resumeTurn, delayEnds, wake, fallTurn, tickTurn, startTurn}
 use Rattle.task.proofs.Dues.{continued-cases, spent-any}
 use Rattle.task.proofs.Fairness.{rest-facts}

@@ -3,10 +3,10 @@ use mathlib.Core.Path.{_≡_}
 use mathlib.Core.Bool.{Bool, true, false, not, _&&_}
 use Prim.Native.Nat.{ℕ}
 use Rattle.lock.proofs.Bools.{byBool}
-use Rattle.task.specs.declared.Alarm.{Alarm}
+use Rattle.schedule.specs.declared.Alarm.{Alarm}
+use Rattle.schedule.specs.Alarms.{listening, rearmed}
 use Rattle.task.specs.declared.Task.{Task}
 use Rattle.task.specs.State.{unheld, withContinuation}
-use Rattle.task.specs.Alarms.{listening, rearmed}
 use Rattle.task.specs.Continuations.{goesOn, withNext, dropped, spent, continued}
 
 -- It finds the task held or not.

@@ -6,16 +6,16 @@ use native.Mathlib.Omega.{arith}
 use Rattle.calendar.specs.declared.Instant.{Instant}
 use Rattle.lock.specs.Locks.{waiting}
 use Rattle.lock.proofs.Bools.{tests, byBool, contra}
-use Rattle.task.specs.declared.Alarm.{Alarm}
+use Rattle.schedule.specs.declared.Alarm.{Alarm}
+use Rattle.schedule.specs.declared.Schedule.{Schedule}
+use Rattle.schedule.specs.Alarms.{falls, listens, setOff}
+use Rattle.schedule.specs.Schedules.{advance, triggered}
 use Rattle.task.specs.declared.Hold.the-variants.{Suspended, Delayed}
 use Rattle.task.specs.declared.Kept.{Kept}
 use Rattle.task.specs.declared.Kept.the-variants.{Empty, Back}
-use Rattle.task.specs.declared.Schedule.{Schedule}
 use Rattle.task.specs.declared.Task.{Task}
 use Rattle.task.specs.declared.Turn.{Turn}
 use Rattle.task.specs.State.{unheld, isKept, restOk, withHold, withSchedule, withContinuation}
-use Rattle.task.specs.Alarms.{falls, listens, setOff}
-use Rattle.task.specs.Schedules.{advance, triggered}
 use Rattle.task.specs.Continuations.{goesOn, withNext, continued, continueAt, calledBy}
 use Rattle.task.specs.Promises.{Fair, TurnsAreFair}
 use Rattle.task.proofs.Dues.{continued-cases, spent-any}

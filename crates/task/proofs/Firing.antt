@@ -4,14 +4,14 @@ use mathlib.Core.Bool.{Bool, true, false, or-false}
 use Prim.Native.Nat.{ℕ}
 use Rattle.calendar.specs.declared.Instant.{Instant}
 use Rattle.lock.proofs.Bools.{byBool, contra, both}
-use Rattle.task.specs.declared.Alarm.{Alarm}
+use Rattle.schedule.specs.declared.Alarm.{Alarm}
+use Rattle.schedule.specs.Alarms.{listening, falls, listens, setOff}
+use Rattle.schedule.specs.Schedules.{advance}
 use Rattle.task.specs.declared.Hold.the-variants.{Unheld}
 use Rattle.task.specs.declared.Kept.{Kept}
 use Rattle.task.specs.declared.Kept.the-variants.{Empty, Back}
 use Rattle.task.specs.declared.Task.{Task}
 use Rattle.task.specs.State.{unheld, restOk, withHold, withSchedule}
-use Rattle.task.specs.Alarms.{listening, falls, listens, setOff}
-use Rattle.task.specs.Schedules.{advance}
 use Rattle.task.specs.Continuations.{withNext, continued, continueAt}
 use Rattle.task.specs.Turns.{dueIf, delayEnds, wake, fallTurn, tickTurn, startTurn, triggerTurn}
 use Rattle.task.specs.Continuing.{SameContinuation, SameHold, Leaves, Fires, Called, Turned, DelayFirst}

@@ -7,11 +7,11 @@ use Rattle.calendar.specs.Moments.{isAt}
 use Rattle.calendar.specs.declared.Instant.{Instant}
 use Rattle.calendar.specs.declared.Moment.the-variants.{Never, At}
 use Rattle.lock.proofs.Bools.{neither}
-use Rattle.task.specs.declared.Alarm.{Alarm}
-use Rattle.task.specs.declared.Plan.{Plan}
-use Rattle.task.specs.declared.Plan.the-variants.{None, Clock, Armed, Triggered}
+use Rattle.schedule.specs.declared.Plan.{Plan}
+use Rattle.schedule.specs.declared.Plan.the-variants.{None, Clock, Armed, Triggered}
+use Rattle.schedule.specs.declared.Alarm.{Alarm}
+use Rattle.schedule.specs.Alarms.{pending, falls, listens}
 use Rattle.task.specs.declared.Task.{Task}
-use Rattle.task.specs.Alarms.{pending, falls, listens}
 use Rattle.task.specs.Coming.{comes}
 use Rattle.task.specs.Continuations.{orElse, continueAt, calledBy}
 use Rattle.task.specs.Turns.{unmarked, delayEnds, wake, fallTurn, startTurn, triggerTurn}

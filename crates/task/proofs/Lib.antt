@@ -2,9 +2,7 @@
 pub mod Dues
 pub mod Alike
 pub mod Fairness
-pub mod Triggers
 pub mod Continuing
 pub mod Firing
 pub mod Waits
-pub mod Starts
 pub mod Laws

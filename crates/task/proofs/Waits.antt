@@ -5,15 +5,15 @@ use Prim.Native.Nat.{ℕ}
 use Rattle.calendar.specs.declared.Instant.{Instant}
 use Rattle.lock.specs.Locks.{waiting}
 use Rattle.lock.proofs.Bools.{byBool, contra}
-use Rattle.task.specs.declared.Alarm.{Alarm}
+use Rattle.schedule.specs.declared.Alarm.{Alarm}
+use Rattle.schedule.specs.declared.Schedule.{Schedule}
+use Rattle.schedule.specs.Alarms.{falls, listens}
+use Rattle.schedule.specs.Schedules.{advance, triggered}
 use Rattle.task.specs.declared.Hold.the-variants.{Suspended}
 use Rattle.task.specs.declared.Kept.{Kept}
 use Rattle.task.specs.declared.Kept.the-variants.{Empty, Back}
-use Rattle.task.specs.declared.Schedule.{Schedule}
 use Rattle.task.specs.declared.Task.{Task}
 use Rattle.task.specs.State.{withHold, withSchedule}
-use Rattle.task.specs.Alarms.{falls, listens}
-use Rattle.task.specs.Schedules.{advance, triggered}
 use Rattle.task.specs.Turns.{dueIf, dueTurn, endIf, endTurn, preventTurn, suspendTurn, continueTurn, resumeTurn, wake, fallTurn, tickTurn, scheduleTurn, startTurn, triggerTurn, laterTurn, restTurn}
 use Rattle.task.specs.Continuations.{continueAt, calledBy}
 use Rattle.task.proofs.Alike.{Like, like-then, like-wake, like-continue-at, like-later, like-called}

@@ -1,24 +1,19 @@
 -- What comes to a task without another call, and when.
-use mathlib.Core.Bool.{Bool, cond}
+use mathlib.Core.Bool.{Bool}
 use mathlib.Core.List.{List, [], _∷_}
 use Rattle.calendar.specs.Moments.{hasAt}
 use Rattle.calendar.specs.declared.Instant.{Instant}
 use Rattle.calendar.specs.declared.Moment.{Moment}
 use Rattle.calendar.specs.declared.Moment.the-variants.{Never, At}
-use Rattle.task.specs.declared.Alarm.{Alarm}
+use Rattle.schedule.specs.Coming.{nextOf}
 use Rattle.task.specs.declared.Hold.{Hold}
 use Rattle.task.specs.declared.Hold.the-variants.{Unheld, Suspended, Delayed}
 use Rattle.task.specs.declared.Task.{Task}
-use Rattle.task.specs.Alarms.{pending}
 
 abbrev pub delayEnd : Hold → Moment
 delayEnd Unheld = Never
 delayEnd Suspended = Never
 delayEnd (Delayed n) = At n
-
--- The next due of an alarm. One that waits for its interrupt has none.
-abbrev pub nextOf : Alarm → Moment
-nextOf a = cond (pending (a .plan)) (At (a .next)) Never
 
 -- All that pends for a task.
 abbrev pub pendings : Task → List Moment

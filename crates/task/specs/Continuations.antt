@@ -2,11 +2,11 @@
 use mathlib.Core.Bool.{false, not, cond, _&&_}
 use Prim.Native.Nat.{ℕ, zero, suc}
 use Rattle.calendar.specs.declared.Instant.{Instant}
-use Rattle.task.specs.declared.Alarm.{Alarm}
+use Rattle.schedule.specs.declared.Alarm.{Alarm}
+use Rattle.schedule.specs.Alarms.{noAlarm, listening, falls, listens, rearmed, setOff}
 use Rattle.task.specs.declared.Hold.the-variants.{Unheld}
 use Rattle.task.specs.declared.Task.{Task}
-use Rattle.task.specs.State.{noAlarm, unheld, withCurrent, withHold, withContinuation}
-use Rattle.task.specs.Alarms.{listening, falls, listens, rearmed, setOff}
+use Rattle.task.specs.State.{unheld, withCurrent, withHold, withContinuation}
 
 -- A priority given, or another where it is 0.
 abbrev pub orElse : ℕ → ℕ → ℕ

@@ -8,15 +8,15 @@ use Rattle.calendar.specs.Times.{plus}
 use Rattle.calendar.specs.declared.Instant.{Instant}
 use Rattle.calendar.specs.declared.Duration.{Duration}
 use Rattle.calendar.specs.declared.Moment.the-variants.{Never, At}
-use Rattle.task.specs.declared.Alarm.{Alarm}
+use Rattle.schedule.specs.declared.Plan.{Plan}
+use Rattle.schedule.specs.declared.Plan.the-variants.{Armed}
+use Rattle.schedule.specs.declared.Alarm.{Alarm}
+use Rattle.schedule.specs.declared.Schedule.{Schedule}
+use Rattle.schedule.specs.Alarms.{noAlarm, listening, setFor, armed, falls, listens, comingAt, setOff}
+use Rattle.schedule.specs.Coming.{nextOf}
 use Rattle.task.specs.declared.Hold.the-variants.{Unheld}
-use Rattle.task.specs.declared.Plan.{Plan}
-use Rattle.task.specs.declared.Plan.the-variants.{Armed}
-use Rattle.task.specs.declared.Schedule.{Schedule}
 use Rattle.task.specs.declared.Task.{Task}
-use Rattle.task.specs.State.{noAlarm, unheld, restOk, withContinuation}
-use Rattle.task.specs.Alarms.{listening, setFor, armed, falls, listens, comingAt, setOff}
-use Rattle.task.specs.Coming.{nextOf}
+use Rattle.task.specs.State.{unheld, restOk, withContinuation}
 use Rattle.task.specs.Continuations.{orElse, withNext, continued, calledBy}
 use Rattle.task.specs.Turns.{unmarked, dueTurn, endTurn, preventTurn, suspendTurn, continueTurn, resumeTurn, delayEnds, tickTurn, scheduleTurn, triggerTurn, laterTurn}
 

@@ -1,7 +1,5 @@
 -- The rules of one task, in the order to read them.
 pub mod State
-pub mod Alarms
-pub mod Schedules
 pub mod Coming
 pub mod Continuations
 pub mod Turns

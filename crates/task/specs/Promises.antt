@@ -1,20 +1,14 @@
--- What one task's turn keeps. Proved in proofs/Fairness.antt, proofs/Laws.antt and proofs/Triggers.antt.
+-- What one task's turn keeps. Proved in proofs/Fairness.antt and proofs/Laws.antt.
 use mathlib.Core.Path.{_≡_}
 use mathlib.Core.Bool.{Bool, true, false, not, _&&_, _||_}
 use Prim.Native.Nat.{ℕ, _+_}
-use Rattle.calendar.specs.Times.{plus}
-use Rattle.calendar.specs.Dues.{lastAllowed, nextDue}
 use Rattle.calendar.specs.declared.Instant.{Instant}
-use Rattle.calendar.specs.declared.Moment.the-variants.{Never, At}
 use Rattle.lock.specs.Locks.{bit, waiting}
-use Rattle.task.specs.declared.Plan.the-variants.{Armed, Triggered}
-use Rattle.task.specs.declared.Alarm.{Alarm}
-use Rattle.task.specs.declared.Schedule.{Schedule}
+use Rattle.schedule.specs.declared.Alarm.{Alarm}
+use Rattle.schedule.specs.declared.Schedule.{Schedule}
 use Rattle.task.specs.declared.Task.{Task}
 use Rattle.task.specs.declared.Turn.{Turn}
-use Rattle.task.specs.State.{noSchedule, isKept, restOk, wanted}
-use Rattle.task.specs.Alarms.{listening}
-use Rattle.task.specs.Schedules.{advance, triggered}
+use Rattle.task.specs.State.{isKept, restOk, wanted}
 use Rattle.task.specs.Coming.{comes}
 use Rattle.task.specs.Turns.{unmarked, dueTurn, endTurn, preventTurn, suspendTurn, continueTurn, resumeTurn, tickTurn, scheduleTurn, triggerTurn, laterTurn, restTurn}
 
@@ -49,20 +43,3 @@ pub record TurnsAreFair : Type 0 where
 -- A tick to an instant at which nothing comes leaves the task as it is.
 abbrev pub QuietTurn : Type 0
 QuietTurn = (n : Instant) (t : Task) → comes n t ≡ false → tickTurn n t ≡ unmarked t
-
--- A trigger replaces whatever was to come: first and last are computed anew from n, with no regard to the old ones.
-abbrev pub TriggerReplaces : Type 0
-TriggerReplaces =
-    (day clock : ℕ) (n : Instant) (s : Schedule)
-    → (triggered day clock n s .alarm .plan ≡ Triggered)
-    × (triggered day clock n s .alarm .next ≡ plus n (s .alarm .delay))
-    × (triggered day clock n s .last ≡ lastAllowed day (s .end) clock (plus n (s .alarm .delay)))
-
--- What a due leaves of a schedule, by what the calendar says comes next.
-pub record AdvanceGoesOn : Type 0 where
-  pub next : (n m : Instant) (s : Schedule) → nextDue (s .period) (s .last) n ≡ At m
-      → (advance n s .alarm .plan ≡ s .alarm .plan) × (advance n s .alarm .next ≡ m) × (advance n s .last ≡ s .last)
-  pub armed : (n : Instant) (s : Schedule) → nextDue (s .period) (s .last) n ≡ Never → listening (s .alarm .plan) ≡ true
-      → advance n s .alarm .plan ≡ Armed
-  pub gone : (n : Instant) (s : Schedule) → nextDue (s .period) (s .last) n ≡ Never → listening (s .alarm .plan) ≡ false
-      → advance n s ≡ noSchedule

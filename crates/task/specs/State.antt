@@ -3,28 +3,18 @@ use mathlib.Core.Bool.{Bool, true, false, not, _&&_, _||_}
 use mathlib.Core.List.{List, []}
 use Prim.Native.Nat.{ℕ}
 use lib.ListN.{take}
-use Rattle.calendar.specs.Times.{instant, duration}
-use Rattle.calendar.specs.declared.End.the-variants.{Open}
-use Rattle.calendar.specs.declared.Moment.the-variants.{Never}
 use Rattle.lock.specs.declared.Wait.{Wait}
 use Rattle.lock.specs.declared.Wait.the-variants.{Nothing}
 use Rattle.lock.specs.Locks.{waiting}
+use Rattle.schedule.specs.declared.Alarm.{Alarm}
+use Rattle.schedule.specs.declared.Schedule.{Schedule}
+use Rattle.schedule.specs.Alarms.{noAlarm}
+use Rattle.schedule.specs.Schedules.{noSchedule}
 use Rattle.task.specs.declared.Hold.{Hold}
 use Rattle.task.specs.declared.Hold.the-variants.{Unheld, Suspended, Delayed}
 use Rattle.task.specs.declared.Kept.{Kept}
 use Rattle.task.specs.declared.Kept.the-variants.{Empty, Back}
-use Rattle.task.specs.declared.Plan.the-variants.{None}
-use Rattle.task.specs.declared.Alarm.{Alarm}
-use Rattle.task.specs.declared.Schedule.{Schedule}
 use Rattle.task.specs.declared.Task.{Task}
-
--- ---- nothing there
-
-abbrev pub noAlarm : Alarm
-noAlarm = record { plan = None; interrupt = 0; delay = duration 0; next = instant 0 }
-
-abbrev pub noSchedule : Schedule
-noSchedule = record { alarm = noAlarm; last = Never; end = Open; period = 0; priority = 0 }
 
 -- What stands at a place that no table has.
 abbrev pub noTask : Task

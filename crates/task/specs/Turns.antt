@@ -3,17 +3,17 @@ use mathlib.Core.Bool.{Bool, true, false, cond}
 use Prim.Native.Nat.{ℕ}
 use Rattle.calendar.specs.Moments.{isAt}
 use Rattle.calendar.specs.declared.Instant.{Instant}
+use Rattle.schedule.specs.declared.Alarm.{Alarm}
+use Rattle.schedule.specs.declared.Schedule.{Schedule}
+use Rattle.schedule.specs.Alarms.{falls, listens}
+use Rattle.schedule.specs.Schedules.{noSchedule, advance, triggered}
 use Rattle.task.specs.declared.Hold.{Hold}
 use Rattle.task.specs.declared.Hold.the-variants.{Unheld, Suspended, Delayed}
 use Rattle.task.specs.declared.Kept.{Kept}
 use Rattle.task.specs.declared.Kept.the-variants.{Empty, Back}
-use Rattle.task.specs.declared.Alarm.{Alarm}
-use Rattle.task.specs.declared.Schedule.{Schedule}
 use Rattle.task.specs.declared.Task.{Task}
 use Rattle.task.specs.declared.Turn.{Turn}
-use Rattle.task.specs.State.{noSchedule, isKept, withCurrent, withAlive, withKept, withHold, withSchedule, withContinuation, waitOver}
-use Rattle.task.specs.Alarms.{falls, listens}
-use Rattle.task.specs.Schedules.{advance, triggered}
+use Rattle.task.specs.State.{isKept, withCurrent, withAlive, withKept, withHold, withSchedule, withContinuation, waitOver}
 use Rattle.task.specs.Coming.{delayEnd}
 use Rattle.task.specs.Continuations.{goesOn, dropped, continueAt, calledBy}
 

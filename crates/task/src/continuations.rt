@@ -4,10 +4,10 @@ ghost use Prim.Native.Nat.{_≤_};
 ghost use Rattle.calendar.specs.Limits.{lastInstant};
 ghost use Rattle.task.specs.State.{withContinuation};
 ghost use Rattle.task.specs.Continuations.{orElse, goesOn, withNext, dropped, spent, continued, continueAt, calledBy};
-use crate::Alarm;
 use crate::Hold;
 use crate::Task;
 use calendar::Instant;
+use schedule::Alarm;
 
 // The priority given, or another where it is 0.
 pub fn or_else(given: u8, other: u8) -> u8

@@ -1,14 +1,11 @@
 // One task: its priorities, wait, hold, kept-back start, schedule and continuation.
-pub mod alarms;
 pub mod continuations;
-pub mod schedules;
 pub mod turns;
 
-use calendar::Duration;
-use calendar::End;
 use calendar::Instant;
-use calendar::Moment;
 use lock::Wait;
+use schedule::Alarm;
+use schedule::Schedule;
 
 pub enum Hold {
     Unheld,
@@ -20,31 +17,6 @@ pub enum Hold {
 pub enum Kept {
     Empty,
     Back(u8),
-}
-
-// No alarm; one that waits for its next due; one that waits for its interrupt; one that its interrupt
-// set off and that waits for its next due.
-pub enum Plan {
-    None,
-    Clock,
-    Armed,
-    Triggered,
-}
-
-// What comes due. Only a WHEN has an interrupt and a delay, which runs from the trigger; 0 is none.
-pub struct Alarm {
-    pub plan: Plan,
-    pub interrupt: u8,
-    pub delay: Duration,
-    pub next: Instant,
-}
-
-pub struct Schedule {
-    pub alarm: Alarm,
-    pub last: Moment,
-    pub end: End,
-    pub period: u32,
-    pub priority: u8,
 }
 
 // A continuation has three parts: its alarm, the priority that it gives (0: the one current then), and whether a RESUME

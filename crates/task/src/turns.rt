@@ -4,18 +4,18 @@ ghost use mathlib.Core.Bool.{_||_};
 ghost use Prim.Native.Nat.{_≤_};
 ghost use Rattle.calendar.specs.Limits.{day, lastInstant, mostInstant};
 ghost use Rattle.task.specs.State.{runnable, waitOver, waitFor, unheld, suspended, isKept, withCurrent, withAlive, withKept, withHold, withSchedule};
-ghost use Rattle.task.specs.Alarms.{listens};
+ghost use Rattle.schedule.specs.Alarms.{listens};
 ghost use Rattle.task.specs.Turns.{marked, unmarked, cleared, dueTurn, endTurn, preventTurn, suspendTurn, continueTurn, resumeTurn, delayEnds, wake, fallTurn, tickTurn, scheduleTurn, startTurn, triggerTurn, laterTurn, restTurn};
-use crate::Alarm;
 use crate::Hold;
 use crate::Kept;
 use crate::Marks;
-use crate::Schedule;
 use crate::Task;
 use crate::Turn;
 use calendar::Instant;
 use lock::Wait;
 use lock::is_waiting;
+use schedule::Alarm;
+use schedule::Schedule;
 
 impl Hold {
     pub fn is_unheld(self) -> bool

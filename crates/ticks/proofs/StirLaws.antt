@@ -4,7 +4,7 @@ use mathlib.Core.Bool.{false, _||_, and-false}
 use lib.Dec.{eqb}
 use Rattle.calendar.specs.declared.Instant.{Instant}
 use Rattle.lock.proofs.Bools.{contra, neither}
-use Rattle.task.specs.Alarms.{falls}
+use Rattle.schedule.specs.Alarms.{falls}
 use Rattle.task.specs.Coming.{comes}
 use Rattle.task.specs.Turns.{delayEnds}
 use Rattle.task.specs.declared.Hold.{Hold}

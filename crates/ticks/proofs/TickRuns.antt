@@ -14,8 +14,8 @@ use Rattle.calendar.specs.declared.Instant.{Instant}
 use Rattle.lock.specs.Locks.{waiting}
 use Rattle.lock.proofs.Bools.{byBool, byEq, contra, both}
 use Rattle.task.specs.State.{noTask, runnable, unheld, withSchedule}
-use Rattle.task.specs.Alarms.{falls}
-use Rattle.task.specs.Schedules.{advance}
+use Rattle.schedule.specs.Alarms.{falls}
+use Rattle.schedule.specs.Schedules.{advance}
 use Rattle.task.specs.Continuations.{continueAt}
 use Rattle.task.specs.Turns.{dueIf, delayEnds, wake, fallTurn, tickTurn}
 use Rattle.task.proofs.Alike.{like-continue-at}

@@ -8,7 +8,8 @@ use Prim.Native.Nat.{_-_, _<_, _≤_}
 use native.Mathlib.Omega.{arith}
 use Rattle.calendar.specs.Limits.{day}
 use Rattle.calendar.specs.Moments.{sooner}
-use Rattle.task.specs.Coming.{delayEnd, nextOf}
+use Rattle.schedule.specs.Coming.{nextOf}
+use Rattle.task.specs.Coming.{delayEnd}
 use Rattle.task.specs.declared.Task.{Task}
 use Rattle.machine.specs.State.{mostTasks, taskAt}
 use Rattle.machine.specs.Test.{mostPriority, isPriority, scheduleOk, continuationOk, allBelow, countsOk, valid}

@@ -5,7 +5,7 @@ use mathlib.Core.Path.{_≡_, sym, _∙_}
 use mathlib.Core.Bool.{true, not, _||_}
 use mathlib.Core.Logic.{⊎-elim}
 use Rattle.lock.proofs.Bools.{contra, then-or}
-use Rattle.task.specs.Alarms.{listening}
+use Rattle.schedule.specs.Alarms.{listening}
 use Rattle.machine.specs.Test.{listenerOk, alarmOk}
 use Rattle.survey.proofs.check.is_alarm_ok.Statement.{statement}
 use Rattle.survey.proofs.check.is_alarm_ok.Tie as tie

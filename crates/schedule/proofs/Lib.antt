@@ -1,0 +1,3 @@
+-- Laws of alarms and schedules.
+pub mod Starts
+pub mod Triggers
