@@ -3,7 +3,7 @@
 use std::fmt;
 
 use crate::answer::Answer;
-use crate::kernel::{Kernel, State};
+use crate::kernel::{Kernel, List, State, Wait};
 use crate::record::{Mark, Record, LETTERS};
 
 #[derive(Default)]
@@ -29,6 +29,15 @@ pub struct Coverage {
     sets: [u64; 5],
     /// Answers that grant to several tasks at once.
     several_granted: u64,
+    /// ENTERs that wait for nothing but a waiting writer.
+    held_up: u64,
+    /// ENTERs granted although a less urgent writer waits for one of the bolts.
+    passed: u64,
+    /// RESERVEs that wait although one of their bolts is free.
+    partly_free: u64,
+    /// Answers of TE, CO, TI and TG that grant something: to readers whose
+    /// writer has ended or has another priority, or who have another one.
+    let_in: [u64; 4],
 }
 
 impl Coverage {
@@ -57,6 +66,7 @@ impl Coverage {
         self.accepted[record.mark as usize] += 1;
         self.note_kinds(&record);
         self.note_continuations(before, &record);
+        self.note_bolts(before, &record, sets.granted != 0);
     }
 
     fn note_kinds(&mut self, record: &Record) {
@@ -85,6 +95,29 @@ impl Coverage {
             }
         }
     }
+
+    /// What waiting writers do to readers in this call.
+    fn note_bolts(&mut self, before: &Kernel, call: &Record, granted: bool) {
+        let mut bolts = call.list.numbers().iter().map(|&b| usize::from(b));
+        match call.mark {
+            Mark::Enter if granted => self.passed += u64::from(writer_waits(before, &call.list)),
+            Mark::Enter => self.held_up += u64::from(bolts.all(|b| before.has_room(b))),
+            Mark::Reserve if !granted => {
+                self.partly_free += u64::from(bolts.any(|b| before.is_free(b)));
+            }
+            Mark::Terminate => self.let_in[0] += u64::from(granted),
+            Mark::Continue => self.let_in[1] += u64::from(granted),
+            Mark::Tick => self.let_in[2] += u64::from(granted),
+            Mark::Trigger => self.let_in[3] += u64::from(granted),
+            _ => {}
+        }
+    }
+}
+
+/// Whether a task waits in a RESERVE that names one of these bolts.
+fn writer_waits(kernel: &Kernel, bolts: &List) -> bool {
+    let names_one = |wait: &Wait| matches!(wait, Wait::Reserve(own) if own.meets(bolts));
+    kernel.declared_tasks().iter().any(|t| names_one(&t.wait))
 }
 
 /// Whether this call, which is accepted, makes a continuation of task `i` come due.
@@ -139,6 +172,13 @@ impl fmt::Display for Coverage {
             "answers with due {due}, started {started}, ended {ended}, lost {lost}, \
              granted {granted}, several granted {}",
             self.several_granted
-        )
+        )?;
+        writeln!(
+            f,
+            "ENTERs held up by a waiting writer alone {}, granted past a less urgent one {}, \
+             RESERVEs that wait with a bolt free {}",
+            self.held_up, self.passed, self.partly_free
+        )?;
+        writeln!(f, "answers of TE, CO, TI, TG that grant: {:?}", self.let_in)
     }
 }

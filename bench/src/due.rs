@@ -99,7 +99,7 @@ impl Kernel {
     /// The next instant: delays that are over, then continuations, then dues.
     ///
     /// None of them looks at another task, so one pass does for all. Hands back
-    /// whether some task may run now that could not before.
+    /// whether some task was unheld or started.
     pub fn tick(&mut self, sets: &mut Sets) -> bool {
         self.now += 1;
         let now = self.now;

@@ -103,7 +103,7 @@ impl Script {
         let crowded = self.count_tasks(|t| !t.runnable()) >= MOST_AWAY;
         let asks = |mark: &[u8; 2], list: Vec<u8>, wait: fn(&Draft) -> Wait| {
             let draft = Draft::new(mark).list(&list);
-            (!crowded || kernel.grantable(&wait(&draft))).then_some(draft)
+            (!crowded || kernel.runner_gets(&wait(&draft))).then_some(draft)
         };
         match random.below(12) {
             0 => asks(b"RQ", semaphores(random), |d| Wait::Request(d.as_list())),

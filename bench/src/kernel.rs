@@ -20,6 +20,11 @@ impl List {
     pub fn numbers(&self) -> &[u8] {
         &self.places[..usize::from(self.length).min(LIST)]
     }
+
+    /// Whether the two lists have a number in common.
+    pub fn meets(&self, other: &List) -> bool {
+        self.numbers().iter().any(|n| other.numbers().contains(n))
+    }
 }
 
 #[derive(Clone, Copy, PartialEq, Eq, Debug)]

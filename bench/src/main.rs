@@ -30,7 +30,8 @@ use trouble::no_output;
 
 const USAGE: &str = "usage:
   bench reference                      records on standard input, lines on standard output
-  bench generate KIND SEED RECORDS     a random script: valid, damaged, contended or idle
+  bench generate KIND SEED RECORDS     a random script: valid, damaged, contended,
+                                       idle or writers
   bench heavy KIND RECORDS             a long script: ticks, calls or readers
   bench compare PROGRAM COUNT SEED     random scripts through PROGRAM and the reference
   bench coverage COUNT SEED            what those scripts reach

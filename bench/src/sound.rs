@@ -1,8 +1,8 @@
 //! Refusal 1: is the kernel value one that may be worked with?
 //!
-//! The same pass over the tasks finds the running one. What the types rule
-//! out, such as a priority of 0, a semaphore above 65,535 or a terminated task
-//! that is held, needs no test.
+//! The same pass over the tasks finds the running one and those that wait. What
+//! the types rule out, such as a priority of 0, a semaphore above 65,535 or a
+//! terminated task that is held, needs no test.
 
 use crate::calendar::{is_duration, is_time_of_day};
 use crate::kernel::{Continuation, End, Kernel, List, Origin, Schedule, State, Task, Wait};
@@ -11,21 +11,31 @@ use crate::runner::Runner;
 
 pub struct Unsound;
 
+/// What a look at a sound kernel finds.
+pub struct Survey {
+    pub running: Option<u8>,
+    /// All tasks that wait, as a set.
+    pub waiting: u32,
+}
+
 impl Kernel {
-    /// The running task of a sound kernel.
+    /// Who runs and who waits, if the kernel is sound.
     ///
     /// A function of its own, so that its loop keeps all it needs in registers.
     #[inline(never)]
-    pub fn survey(&self) -> Result<Option<u8>, Unsound> {
+    pub fn survey(&self) -> Result<Survey, Unsound> {
         if !self.frame_is_sound() {
             return Err(Unsound);
         }
         let mut runner = Runner::none();
+        let mut waiting = 0;
         for (i, task) in self.declared_tasks().iter().enumerate() {
             if task.runnable() {
                 runner.consider(i, task.current);
             } else if !self.pause_is_sound(task) {
                 return Err(Unsound);
+            } else {
+                waiting |= u32::from(!matches!(task.wait, Wait::Nothing)) << i;
             }
             if let Some(schedule) = &task.schedule {
                 if !self.schedule_is_sound(schedule) {
@@ -38,7 +48,13 @@ impl Kernel {
                 }
             }
         }
-        Ok(runner.number())
+        if waiting != 0 && self.most_urgent_grantable(waiting).is_some() {
+            return Err(Unsound);
+        }
+        Ok(Survey {
+            running: runner.number(),
+            waiting,
+        })
     }
 
     fn frame_is_sound(&self) -> bool {
@@ -63,11 +79,8 @@ impl Kernel {
         state_is_sound
             && match &task.wait {
                 Wait::Nothing => true,
-                Wait::Request(list) => {
-                    may_wait(list, self.counts.semaphores, |s| self.can_request(s))
-                }
-                Wait::Reserve(list) => may_wait(list, self.counts.bolts, |b| self.can_reserve(b)),
-                Wait::Enter(list) => may_wait(list, self.counts.bolts, |b| self.can_enter(b)),
+                Wait::Request(list) => is_list(list, self.counts.semaphores),
+                Wait::Reserve(list) | Wait::Enter(list) => is_list(list, self.counts.bolts),
             }
     }
 
@@ -99,17 +112,15 @@ impl Kernel {
     }
 }
 
-/// A list that may wait: one to four different numbers below `count`, not all open.
+/// One to four different numbers below `count`.
 #[inline(always)]
-fn may_wait(list: &List, count: u8, open: impl Fn(usize) -> bool) -> bool {
+fn is_list(list: &List, count: u8) -> bool {
     let mut seen = 0u32;
-    let mut some_closed = false;
     for &number in list.numbers() {
         if number >= count || seen & (1 << number) != 0 {
             return false;
         }
         seen |= 1 << number;
-        some_closed |= !open(usize::from(number));
     }
-    some_closed && usize::from(list.length) <= LIST
+    (1..=LIST).contains(&usize::from(list.length))
 }

@@ -4,43 +4,47 @@ use crate::answer::{Answer, Sets};
 use crate::kernel::{Bolt, End, Kernel, List, Priority, Schedule, State, Task, Wait};
 use crate::limits::{BOLTS, FULL, INTERRUPTS, LAST_TICK, SEMAPHORES, TASKS};
 use crate::record::{Mark, Record};
+use crate::sound::Survey;
 
 /// A refusal number from 2 to 15.
 type Refusal = u8;
 
-/// Whether a record leaves the running task as it was.
-enum Runner {
-    Stays,
-    MayChange,
+/// What has to be looked for after an accepted call.
+#[derive(PartialEq, Eq)]
+enum Effect {
+    /// Nothing: the runner goes on, and no list opened. No wait, hold or
+    /// priority is another one, and nothing was given back. If that were wrong,
+    /// the next record would find a grantable list and get refusal 1.
+    Quiet,
+    /// Lists that opened; without one the runner goes on.
+    MayOpen,
+    /// Lists that opened, and who runs then.
+    MayTurn,
 }
 
 impl Kernel {
     pub fn step(&mut self, bytes: &[u8]) -> Answer {
-        let Ok(running) = self.survey() else {
+        let Ok(found) = self.survey() else {
             return Answer::refusal(1, None);
         };
         let mut sets = Sets::default();
-        match self.carry_out(bytes, running, &mut sets) {
-            Err(number) => Answer::refusal(number, running),
-            Ok(Runner::Stays) => Answer {
+        match self.carry_out(bytes, &found, &mut sets) {
+            Err(number) => Answer::refusal(number, found.running),
+            Ok(running) => Answer {
                 number: 0,
                 running,
-                sets,
-            },
-            Ok(Runner::MayChange) => Answer {
-                number: 0,
-                running: self.running(),
                 sets,
             },
         }
     }
 
+    /// Hands back who runs then.
     fn carry_out(
         &mut self,
         bytes: &[u8],
-        running: Option<u8>,
+        found: &Survey,
         sets: &mut Sets,
-    ) -> Result<Runner, Refusal> {
+    ) -> Result<Option<u8>, Refusal> {
         let record = Record::read(bytes).ok_or(2)?;
         refuse_if(record.mark.declares() && self.called, 2)?;
         refuse_if(!record.fields_are_good(), 3)?;
@@ -49,11 +53,26 @@ impl Kernel {
         refuse_if(!record.times_are_good(), 6)?;
         if record.mark.declares() {
             self.declare(&record)?;
-            return Ok(Runner::Stays);
+            return Ok(found.running);
         }
-        let runner = self.call(&record, running, sets)?;
+        let effect = self.call(&record, found, sets)?;
         self.called = true;
-        Ok(runner)
+        let served = effect != Effect::Quiet && self.serve_after(found, sets);
+        Ok(if served || effect == Effect::MayTurn {
+            self.running()
+        } else {
+            found.running
+        })
+    }
+
+    /// Serves at the end of a call; `found` is from its beginning. Hands back
+    /// whether somebody was granted something.
+    ///
+    /// If nobody waited then, at most the runner waits now, for what it just
+    /// could not get.
+    fn serve_after(&mut self, found: &Survey, sets: &mut Sets) -> bool {
+        let runner = found.running.map_or(0, |i| 1 << i);
+        found.waiting != 0 && self.serve(found.waiting | runner, sets)
     }
 
     /// Refusal 5.
@@ -99,9 +118,10 @@ impl Kernel {
     fn call(
         &mut self,
         record: &Record,
-        running: Option<u8>,
+        found: &Survey,
         sets: &mut Sets,
-    ) -> Result<Runner, Refusal> {
+    ) -> Result<Effect, Refusal> {
+        let running = found.running;
         let i = usize::from(record.number);
         match record.mark {
             Mark::Activate => self.activate(record, sets)?,
@@ -122,7 +142,7 @@ impl Kernel {
                 if task.kept.take().is_some() {
                     sets.lost |= 1 << i;
                 }
-                return Ok(Runner::Stays);
+                return Ok(Effect::Quiet);
             }
             Mark::Continue if record.start_kind > 0 => self.continue_later(i, record),
             Mark::Continue => {
@@ -145,28 +165,28 @@ impl Kernel {
                     self.continue_later(runner, record);
                 }
             }
-            Mark::Request => return self.ask(running, Wait::Request(record.list), sets),
-            Mark::Reserve => return self.ask(running, Wait::Reserve(record.list), sets),
-            Mark::Enter => return self.ask(running, Wait::Enter(record.list), sets),
+            Mark::Request => return self.ask(found, Wait::Request(record.list), sets),
+            Mark::Reserve => return self.ask(found, Wait::Reserve(record.list), sets),
+            Mark::Enter => return self.ask(found, Wait::Enter(record.list), sets),
             Mark::Try => {
                 let runner = running.ok_or(8)?;
-                self.try_take(runner, &Wait::Request(record.list), sets);
-                return Ok(Runner::Stays);
+                self.try_take(runner, &Wait::Request(record.list), found.waiting, sets);
+                return Ok(Effect::Quiet);
             }
             Mark::Release => {
                 running.ok_or(8)?;
                 self.release(&record.list)?;
-                return Ok(self.serve_all(sets));
+                return Ok(Effect::MayOpen);
             }
             Mark::Free => {
                 running.ok_or(8)?;
                 self.free(&record.list)?;
-                return Ok(self.serve_all(sets));
+                return Ok(Effect::MayOpen);
             }
             Mark::Leave => {
                 running.ok_or(8)?;
                 self.leave(&record.list)?;
-                return Ok(self.serve_all(sets));
+                return Ok(Effect::MayOpen);
             }
             Mark::Trigger => {
                 if self.enabled[i] {
@@ -175,16 +195,16 @@ impl Kernel {
             }
             Mark::Enable | Mark::Disable => {
                 self.enabled[i] = record.mark == Mark::Enable;
-                return Ok(Runner::Stays);
+                return Ok(Effect::Quiet);
             }
             _ => {
                 refuse_if(self.now >= LAST_TICK, 15)?;
                 if !self.tick(sets) {
-                    return Ok(Runner::Stays);
+                    return Ok(Effect::Quiet);
                 }
             }
         }
-        Ok(Runner::MayChange)
+        Ok(Effect::MayTurn)
     }
 
     fn activate(&mut self, record: &Record, sets: &mut Sets) -> Result<(), Refusal> {
@@ -228,28 +248,13 @@ impl Kernel {
     }
 
     /// The runner gets what it asks for, or waits for it.
-    fn ask(
-        &mut self,
-        running: Option<u8>,
-        wanted: Wait,
-        sets: &mut Sets,
-    ) -> Result<Runner, Refusal> {
-        let runner = running.ok_or(8)?;
-        if self.try_take(runner, &wanted, sets) {
-            return Ok(Runner::Stays);
+    fn ask(&mut self, found: &Survey, wanted: Wait, sets: &mut Sets) -> Result<Effect, Refusal> {
+        let runner = found.running.ok_or(8)?;
+        if self.try_take(runner, &wanted, found.waiting, sets) {
+            return Ok(Effect::Quiet);
         }
         self.tasks[usize::from(runner)].wait = wanted;
-        Ok(Runner::MayChange)
-    }
-
-    /// After something was given back.
-    fn serve_all(&mut self, sets: &mut Sets) -> Runner {
-        self.serve(sets);
-        if sets.granted == 0 {
-            Runner::Stays
-        } else {
-            Runner::MayChange
-        }
+        Ok(Effect::MayTurn)
     }
 
     fn release(&mut self, list: &List) -> Result<(), Refusal> {

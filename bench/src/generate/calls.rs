@@ -72,11 +72,37 @@ const IDLE: &Weights = &[
     (b"TI", 50),
 ];
 
+const WRITERS: &Weights = &[
+    (b"AC", 12),
+    (b"TE", 4),
+    (b"SU", 9),
+    (b"PR", 1),
+    (b"CO", 14),
+    (b"EN", 1),
+    (b"RE", 2),
+    (b"RQ", 1),
+    (b"RL", 1),
+    (b"TR", 1),
+    (b"RS", 14),
+    (b"FR", 8),
+    (b"ET", 18),
+    (b"LV", 9),
+    (b"TG", 9),
+    (b"EI", 3),
+    (b"XI", 1),
+    (b"TI", 13),
+];
+
 impl Maker {
     pub fn call(&mut self) -> Draft {
         if self.random.once_in(15) {
             let mark = self.mark();
             return self.loose(mark);
+        }
+        if self.kind == Kind::Writers && self.random.once_in(4) {
+            if let Some(draft) = self.call_about_rivals() {
+                return draft;
+            }
         }
         for _ in 0..10 {
             let mark = self.mark();
@@ -92,6 +118,7 @@ impl Maker {
             Kind::Valid | Kind::Damaged => EVEN,
             Kind::Contended => CONTENDED,
             Kind::Idle => IDLE,
+            Kind::Writers => WRITERS,
         };
         let total = weights.iter().map(|(_, weight)| weight).sum();
         let mut left = self.random.below(total);
@@ -113,8 +140,8 @@ impl Maker {
         }
         Some(match mark {
             b"AC" => return self.activation(),
-            b"TE" => draft.on(self.some_task(|t| t.alive())?),
-            b"SU" => draft.on(self.some_task(|t| t.alive() && t.state != State::Suspended)?),
+            b"TE" => draft.on(self.often_at_a_bolt(|t| t.alive())?),
+            b"SU" => draft.on(self.often_at_a_bolt(|t| t.alive() && t.state != State::Suspended)?),
             b"PR" => {
                 let any = self.random.once_in(4);
                 draft.on(self.some_task(|t| any || has_something_to_come(t))?)
@@ -123,8 +150,8 @@ impl Maker {
             b"RE" => self.resumption(),
             b"RQ" | b"TR" | b"RS" | b"ET" => draft.list(&self.wish(mark)?),
             b"RL" => draft.list(&self.some_of(self.semaphores(|value| value < FULL))?),
-            b"FR" => draft.list(&self.some_of(self.bolts(|writer, _| writer))?),
-            b"LV" => draft.list(&self.some_of(self.bolts(|_, readers| readers > 0))?),
+            b"FR" => draft.list(&self.some_of(self.bolts(|b| b.writer))?),
+            b"LV" => draft.list(&self.some_of(self.bolts(|b| b.readers > 0))?),
             b"TG" => draft.on(self.interrupt(true)?),
             b"EI" => draft.on(self.interrupt(false)?),
             b"XI" => draft.on(self.interrupt(true)?),
@@ -188,7 +215,7 @@ impl Maker {
 
     fn activation(&mut self) -> Option<Draft> {
         let plain = match self.kind {
-            Kind::Contended => 95,
+            Kind::Contended | Kind::Writers => 95,
             Kind::Idle => 20,
             Kind::Valid | Kind::Damaged => 50,
         };
@@ -218,7 +245,7 @@ impl Maker {
     }
 
     /// A start kind from 1 to 4; without interrupts AT or AFTER.
-    fn conditioned(&mut self, draft: Draft) -> Draft {
+    pub fn conditioned(&mut self, draft: Draft) -> Draft {
         let interrupts = u32::from(self.kernel.counts.interrupts);
         let interrupt = self.random.below(interrupts.max(1)) as u8;
         let kinds = if interrupts > 0 { 4 } else { 2 };
@@ -232,13 +259,14 @@ impl Maker {
 
     /// A CONTINUE that is accepted: at once for a held task, later for any.
     fn continuation(&mut self) -> Option<Draft> {
-        if self.random.percent(50) {
-            let task = self.some_task(|t| t.held())?;
+        let at_once = if self.kind == Kind::Writers { 35 } else { 50 };
+        if self.random.percent(at_once) {
+            let task = self.often_at_a_bolt(|t| t.held())?;
             let priority = self.priority_or_none();
             return Some(Draft::new(b"CO").on(task).priority(priority));
         }
         let any = self.random.once_in(3);
-        let task = self.some_task(|t| any || t.held())?;
+        let task = self.often_at_a_bolt(|t| any || t.held())?;
         Some(self.continued_later(task))
     }
 
@@ -292,7 +320,10 @@ impl Maker {
             2 => self
                 .random
                 .pick(&[LONGEST, LONGEST - 1, DAY, DAY - 1, DAY + 1]),
-            3 if self.kind != Kind::Idle => self.random.between(1, LONGEST),
+            3 if matches!(self.kind, Kind::Valid | Kind::Damaged | Kind::Contended) => {
+                self.random.between(1, LONGEST)
+            }
+            _ if self.kind == Kind::Writers => self.random.between(1, 4),
             _ => self.random.between(1, 12),
         }
     }
@@ -305,6 +336,7 @@ impl Maker {
             1 => self.random.pick(&[0, 1, DAY - 1]),
             2 => present,
             3 => (present + DAY - self.random.between(1, 20)) % DAY,
+            _ if self.kind == Kind::Writers => (present + self.random.between(0, 4)) % DAY,
             _ => (present + self.random.between(0, 25)) % DAY,
         }
     }
@@ -315,8 +347,8 @@ impl Maker {
         let modest = runnable.count() < 2 || self.random.percent(45);
         let choices = match mark {
             b"RQ" | b"TR" => self.semaphores(|value| !modest || value > 0),
-            b"RS" => self.bolts(|writer, readers| !modest || (!writer && readers == 0)),
-            _ => self.bolts(|writer, readers| !modest || (!writer && readers < FULL)),
+            _ if modest => self.bolts_to_be_had(mark),
+            _ => self.bolts(|_| true),
         };
         let mut list = self.some_of(choices)?;
         if mark == b"TR" {
@@ -325,10 +357,11 @@ impl Maker {
         Some(list)
     }
 
-    /// One to four of the choices, in any order.
+    /// One to four of the choices, in any order; one or two where bolts are few.
     fn some_of(&mut self, mut choices: Vec<u8>) -> Option<Vec<u8>> {
+        let most = if self.kind == Kind::Writers { 2 } else { 4 };
         self.random.shuffle(&mut choices);
-        choices.truncate(self.random.between(1, 4) as usize);
+        choices.truncate(self.random.between(1, most) as usize);
         if choices.is_empty() {
             None
         } else {
@@ -339,11 +372,6 @@ impl Maker {
     fn semaphores(&self, fits: impl Fn(u16) -> bool) -> Vec<u8> {
         let count = usize::from(self.kernel.counts.semaphores);
         numbers_where(&self.kernel.semaphores[..count], |&value| fits(value))
-    }
-
-    fn bolts(&self, fits: impl Fn(bool, u16) -> bool) -> Vec<u8> {
-        let count = usize::from(self.kernel.counts.bolts);
-        numbers_where(&self.kernel.bolts[..count], |b| fits(b.writer, b.readers))
     }
 
     /// Mostly one that is enabled, or disabled, as wanted.

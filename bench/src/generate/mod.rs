@@ -3,6 +3,7 @@
 //! The maker of a script steps a kernel along with what it writes, so that it
 //! can choose calls which fit the state that the script has reached.
 
+mod bolts;
 mod calls;
 mod damage;
 mod declare;
@@ -22,9 +23,18 @@ pub enum Kind {
     Contended,
     /// Schedules, delays and many ticks, often around midnight.
     Idle,
+    /// Readers and writers of few bolts; while they wait they are held, go on
+    /// with another priority, or end.
+    Writers,
 }
 
-pub const KINDS: [Kind; 4] = [Kind::Valid, Kind::Damaged, Kind::Contended, Kind::Idle];
+pub const KINDS: [Kind; 5] = [
+    Kind::Valid,
+    Kind::Damaged,
+    Kind::Contended,
+    Kind::Idle,
+    Kind::Writers,
+];
 
 impl Kind {
     pub fn name(self) -> &'static str {
@@ -33,6 +43,7 @@ impl Kind {
             Kind::Damaged => "damaged",
             Kind::Contended => "contended",
             Kind::Idle => "idle",
+            Kind::Writers => "writers",
         }
     }
 

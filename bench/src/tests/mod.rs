@@ -6,6 +6,7 @@ mod marked;
 mod readings;
 mod scripts;
 mod unsound;
+mod writers;
 
 use crate::draft::Draft;
 use crate::kernel::Kernel;

@@ -226,32 +226,6 @@ fn serving_goes_on_and_passes_over_closed_lists() {
 }
 
 #[test]
-fn a_waiting_reserve_does_not_hold_up_an_enter() {
-    let found = lines(&[
-        task(1),
-        task(2),
-        r(b"DB"),
-        r(b"AC").on(1),
-        r(b"ET").list(&[0]),
-        r(b"AC").on(0),
-        r(b"RS").list(&[0]),
-        r(b"ET").list(&[0]),
-        r(b"LV").list(&[0]),
-        r(b"LV").list(&[0]),
-    ]);
-    let expected = [
-        "0 1 2 2 0 0 0",
-        "0 1 0 0 0 0 2",
-        "0 0 1 1 0 0 0",
-        "0 1 0 0 0 0 0",
-        "0 1 0 0 0 0 2",
-        "0 1 0 0 0 0 0",
-        "0 0 0 0 0 0 1",
-    ];
-    assert_eq!(found, expected);
-}
-
-#[test]
 fn one_full_semaphore_stops_the_whole_release() {
     let mut kernel = after(&[task(1), semaphore(0), semaphore(65_535), r(b"AC")]);
     assert_eq!(number(&mut kernel, r(b"RL").list(&[0, 1])), 13);

@@ -2,9 +2,10 @@
 
 use crate::generate::{script, KINDS};
 use crate::heavy;
-use crate::kernel::Kernel;
-use crate::limits::RECORD;
+use crate::kernel::{Kernel, List, Priority, Wait};
+use crate::limits::{FULL, RECORD};
 use crate::lines;
+use crate::record::{Mark, Record};
 
 fn text(script: &[u8]) -> String {
     let mut out = Vec::new();
@@ -43,6 +44,54 @@ fn the_running_task_is_always_looked_up_right() {
             for record in script(kind, seed, 200).chunks(RECORD) {
                 let answer = kernel.step(record);
                 assert_eq!(answer.running, kernel.running(), "{kind:?} {seed}");
+            }
+        }
+    }
+}
+
+/// ENTER by the words of the rule, bolt by bolt.
+fn may_enter(kernel: &Kernel, reader: Priority, bolts: &List) -> bool {
+    bolts.numbers().iter().all(|b| {
+        let bolt = kernel.bolts[usize::from(*b)];
+        let writers = kernel.declared_tasks().iter().filter(|t| match &t.wait {
+            Wait::Reserve(list) => list.numbers().contains(b),
+            _ => false,
+        });
+        let urgent = writers.filter(|t| t.current <= reader).count();
+        !bolt.writer && bolt.readers < FULL && urgent == 0
+    })
+}
+
+/// Whom an accepted ENTER with this list is to be granted to, as a set.
+fn entering(kernel: &Kernel, bolts: &List) -> u32 {
+    let asker = usize::from(kernel.running().unwrap());
+    let granted = may_enter(kernel, kernel.tasks[asker].current, bolts);
+    u32::from(granted) << asker
+}
+
+fn some_reader_may_enter(kernel: &Kernel) -> bool {
+    kernel.declared_tasks().iter().any(|t| match &t.wait {
+        Wait::Enter(list) => may_enter(kernel, t.current, list),
+        _ => false,
+    })
+}
+
+#[test]
+fn readers_wait_exactly_while_they_may_not_enter() {
+    for seed in 0..200 {
+        for kind in KINDS {
+            let mut kernel = Kernel::new();
+            for bytes in script(kind, seed, 200).chunks(RECORD) {
+                let before = kernel.clone();
+                let answer = kernel.step(bytes);
+                assert!(!some_reader_may_enter(&kernel), "{kind:?} {seed}");
+                match Record::read(bytes) {
+                    Some(call) if call.mark == Mark::Enter && answer.number == 0 => {
+                        let expected = entering(&before, &call.list);
+                        assert_eq!(answer.sets.granted, expected, "{kind:?} {seed}");
+                    }
+                    _ => {}
+                }
             }
         }
     }

@@ -95,6 +95,52 @@ fn grantable_bolts() {
     }
 }
 
+/// Task 0 waits to enter bolt 0, which is free; task 1 to reserve it together
+/// with bolt 1, which isn't.
+fn reader_and_writer(k: &mut Kernel) {
+    let list = |length| List {
+        length,
+        places: [0, 1, 0, 0],
+    };
+    k.counts.bolts = 2;
+    k.bolts[1].readers = 1;
+    k.tasks[0].wait = Wait::Enter(list(1));
+    k.tasks[1].state = State::Unheld;
+    k.tasks[1].wait = Wait::Reserve(list(2));
+}
+
+#[test]
+fn waiting_readers_and_writers() {
+    let with = |change: fn(&mut Kernel)| {
+        number_after(|k| {
+            reader_and_writer(k);
+            change(k);
+        })
+    };
+    assert_eq!(with(|_| {}), 1);
+    assert_eq!(with(|k| k.tasks[1].current = Priority::MIN), 2);
+    assert_eq!(with(|k| k.tasks[0].current = Priority::MAX), 2);
+    assert_eq!(with(|k| k.bolts[0].writer = true), 2);
+    let held = |k: &mut Kernel| {
+        k.tasks[1].current = Priority::MIN;
+        k.tasks[1].state = State::Suspended;
+    };
+    assert_eq!(with(held), 2);
+    let elsewhere = |k: &mut Kernel| {
+        k.tasks[1].current = Priority::MIN;
+        k.tasks[1].wait = Wait::Reserve(List {
+            length: 1,
+            places: [1, 0, 0, 0],
+        });
+    };
+    assert_eq!(with(elsewhere), 1);
+    let undeclared = |k: &mut Kernel| {
+        k.tasks[1].current = Priority::MIN;
+        k.counts.tasks = 1;
+    };
+    assert_eq!(with(undeclared), 1);
+}
+
 #[test]
 fn instants() {
     let delayed = |instant| number_after(|k| k.tasks[0].state = State::DelayedUntil(instant));

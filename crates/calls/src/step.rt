@@ -12,9 +12,13 @@ ghost use Rattle.refusals.specs.Inner.{aboutOne};
 use crate::quiet::is_tick;
 use crate::quiet::quiet_tick;
 use calendar::LAST_INSTANT;
+use changes::asked_kind;
 use changes::change_of;
 use changes::declarations::declared;
 use changes::runner_at;
+use granting::is_missing;
+use granting::no_writers;
+use granting::writers_of;
 use layout::Head;
 use layout::Numbers;
 use look::survey;
@@ -54,7 +58,11 @@ fn done_to(mut k: State, i: usize, sort: Sort, h: Head, list: Numbers, r: Runnin
     if number != 0 {
         return answered(k, number, r);
     }
-    let c = change_of(sort, h, list, t, locks, k.clock, now);
+    let mut writers = no_writers();
+    if is_missing(writers.known, asked_kind(sort)) {
+        writers = writers_of(k);
+    }
+    let c = change_of(sort, h, list, t, locks, writers, k.clock, now);
     let task = c.task;
     let locks = c.locks;
     k.tasks[i] = task;

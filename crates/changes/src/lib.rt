@@ -7,10 +7,11 @@ ghost use mathlib.Core.Path.{_≡_};
 ghost use Prim.Native.Nat.{ℕ, _≤_};
 ghost use Rattle.calendar.specs.Limits.{day, lastInstant};
 ghost use Rattle.record.specs.Reading.{callWith};
-ghost use Rattle.machine.specs.Sorts.{sortOf, runnerAt};
+ghost use Rattle.machine.specs.Sorts.{sortOf, askedKind, runnerAt};
 ghost use Rattle.machine.specs.Work.{byTurn, byLocks};
 ghost use Rattle.machine.specs.Calls.{namedTurn, runnerTurn, asks, changeOf};
 ghost use Rattle.refusals.specs.Inner.{InOrder};
+ghost use Rattle.granting.specs.Writers.{TellsFor, ForSome};
 ghost use Rattle.changes.specs.Inner.{Returnable};
 ghost use Rattle.task.specs.declared.Task.{Task};
 ghost use mathlib.Core.List.{List};
@@ -18,6 +19,8 @@ use crate::activate::activate;
 use crate::activate::go_on;
 use crate::activate::resume;
 use calendar::Instant;
+use granting::Writers;
+use granting::could_be_granted;
 use layout::Head;
 use layout::Mark;
 use layout::Numbers;
@@ -27,8 +30,6 @@ use lock::Way;
 use machine::Change;
 use machine::Running;
 use machine::Sort;
-use survey::granting::Asker;
-use survey::granting::could_be_granted;
 use task::Marks;
 use task::Task;
 use task::Turn;
@@ -40,6 +41,21 @@ pub fn runner_at(r: Running) -> usize
     match r {
         Running::Idle => 0,
         Running::Runs(i) => i as usize,
+    }
+}
+
+// What kind of list a call of a sort asks for.
+pub fn asked_kind(sort: Sort) -> Wait
+    ensures { λ w. ⌜ w ≡ askedKind sort ⌝ }
+{
+    match sort {
+        Sort::Declaration => Wait::Nothing,
+        Sort::OneTask => Wait::Nothing,
+        Sort::TheRunner => Wait::Nothing,
+        Sort::ListAsked(w, _) => w,
+        Sort::ListGiven(_) => Wait::Nothing,
+        Sort::AnInterrupt => Wait::Nothing,
+        Sort::EveryTask => Wait::Nothing,
     }
 }
 
@@ -92,15 +108,21 @@ fn runner_turn(t: Task, clock: u32, now: Instant, h: Head) -> Turn
 }
 
 // The running task asks for a list: it is granted whole, or the task waits; a TRY doesn't wait.
-fn asked(w: Wait, waits: bool, h: Head, list: Numbers, t: Task, locks: Locks) -> Change
+fn asked(
+    w: Wait,
+    waits: bool,
+    h: Head,
+    list: Numbers,
+    t: Task,
+    locks: Locks,
+    writers: Writers,
+) -> Change
     requires { ⌜ InOrder (callWith h list) ⌝ }
-    ensures { λ c. ⌜ ((n : ℕ) (ts : List Task) → c ≡ asks n ts w waits (callWith h list) t locks) ⌝ }
+    requires { ⌜ ForSome w writers ⌝ }
+    ensures { λ c. ⌜ ((n : ℕ) (ts : List Task) → TellsFor w n ts writers → c ≡ asks n ts w waits (callWith h list) t locks) ⌝ }
 {
     let n = h.len as usize;
-    let by = Asker {
-        priority: t.current,
-    };
-    if could_be_granted(locks, by, w, n, list) {
+    if could_be_granted(locks, writers, t.current, w, n, list) {
         return by_locks(t, locks.move_all(Way::Take, w, n, list), true);
     }
     if !waits {
@@ -116,6 +138,7 @@ pub fn change_of(
     list: Numbers,
     t: Task,
     locks: Locks,
+    writers: Writers,
     clock: u32,
     now: Instant,
 ) -> Change
@@ -123,13 +146,14 @@ pub fn change_of(
     requires { ⌜ InOrder (callWith h list) ⌝ }
     requires { ⌜ sort ≡ sortOf (h .mark) ⌝ }
     requires { ⌜ Returnable sort locks (callWith h list) ⌝ }
-    ensures { λ c. ⌜ ((n : ℕ) (ts : List Task) → c ≡ changeOf n ts day sort (callWith h list) clock now t locks) ⌝ }
+    requires { ⌜ ForSome (askedKind sort) writers ⌝ }
+    ensures { λ c. ⌜ ((n : ℕ) (ts : List Task) → TellsFor (askedKind sort) n ts writers → c ≡ changeOf n ts day sort (callWith h list) clock now t locks) ⌝ }
 {
     let n = h.len as usize;
     match sort {
         Sort::OneTask => by_turn(locks, named_turn(t, clock, now, h)),
         Sort::TheRunner => by_turn(locks, runner_turn(t, clock, now, h)),
-        Sort::ListAsked(w, waits) => asked(w, waits, h, list, t, locks),
+        Sort::ListAsked(w, waits) => asked(w, waits, h, list, t, locks, writers),
         Sort::ListGiven(w) => by_locks(t, locks.move_all(Way::Give, w, n, list), false),
         Sort::Declaration => by_locks(t, locks, false),
         Sort::AnInterrupt => by_locks(t, locks, false),

@@ -14,7 +14,7 @@ use Rattle.lock.proofs.Changes.{Local, move-local}
 
 -- ---- tests
 
-names-tail : (x y : ℕ) (l : List ℕ) → names l y ≡ true → names (x ∷ l) y ≡ true
+pub names-tail : (x y : ℕ) (l : List ℕ) → names l y ≡ true → names (x ∷ l) y ≡ true
 names-tail x y l n = byEq x y (λ q. rw q (names-same y l)) (λ q. rw (names-head x y l q) n)
 
 pub every-from : (f : ℕ → Bool) (l : List ℕ) → ((x : ℕ) → names l x ≡ true → f x ≡ true) → every f l ≡ true

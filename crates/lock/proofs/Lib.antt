@@ -3,6 +3,7 @@ pub mod Bools
 pub mod Lists
 pub mod Levels
 pub mod Taking
+pub mod Fewer
 pub mod Exclusion
 pub mod Changes
 pub mod Each

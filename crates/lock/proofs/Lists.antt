@@ -58,6 +58,18 @@ every-at f (x ∷ l) y e n =
     let p = both (f x) (every f l) e in
     byEq x y (λ q. rw (← q) (p .0)) (λ q. every-at f l y (p .1) (rw (ne-eqb x y q) at n))
 
+-- Two tests that agree on all numbers agree on a list.
+pub every-alike : (f g : ℕ → Bool) (l : List ℕ) → ((y : ℕ) → f y ≡ g y) → every f l ≡ every g l
+unfolding every
+every-alike f g [] h = refl
+every-alike f g (y ∷ l) h = rw (h y, every-alike f g l h)
+
+-- What follows for each number follows for a list.
+pub every-then : (f g : ℕ → Bool) (l : List ℕ) → ((y : ℕ) → f y ≡ true → g y ≡ true) → every f l ≡ true → every g l ≡ true
+unfolding every
+every-then f g [] h e = refl
+every-then f g (y ∷ l) h e = let p = both (f y) (every f l) e in and-both (h y (p .0)) (every-then f g l h (p .1))
+
 -- A number counts once in a list that names it once.
 pub count-split : (b : Bool) (x y : ℕ) (l : List ℕ) → names l x ≡ false → bit (b && eqb x y) + bit (b && names l y) ≡ bit (b && names (x ∷ l) y)
 count-split false x y l h = refl

@@ -1,11 +1,11 @@
 // Semaphores and bolts: what can be taken and given back, one number or a list.
 ghost use mathlib.Core.Path.{_≡_};
 ghost use mathlib.Core.Bool.{true};
-ghost use Prim.Native.Nat.{_<_, _≤_};
+ghost use Prim.Native.Nat.{ℕ, _<_, _≤_};
 ghost use lib.ListN.{take};
 ghost use lib.Dec.{ltb};
 ghost use Rattle.record.specs.Lists.{distinct};
-ghost use Rattle.lock.specs.Locks.{mostLocks, waiting, canMove, moveOne, every, canMoveAll, moveAll};
+ghost use Rattle.lock.specs.Locks.{mostLocks, waiting, valueAt, boltAt, canMove, moveOne, every, canMoveAll, moveAll};
 use layout::Numbers;
 
 // The places of the table of semaphores, and of that of bolts.
@@ -48,32 +48,30 @@ pub fn is_waiting(w: Wait) -> bool
     }
 }
 
-impl Locks {
-    // Whether number x can be taken, or given back.
-    pub fn can_move(self, way: Way, w: Wait, x: usize) -> bool
-        requires { ⌜ x < mostLocks ⌝ }
-        ensures { λ r. ⌜ r ≡ canMove way w self x ⌝ }
-    {
-        let v = self.semaphores[x];
-        let b = self.bolts[x];
-        let writer = b.writer;
-        let readers = b.readers;
-        match way {
-            Way::Take => match w {
-                Wait::Nothing => false,
-                Wait::Request => 0 < v,
-                Wait::Reserve => if writer { false } else { readers == 0 },
-                Wait::Enter => if writer { false } else { readers < MOST_VALUE },
-            },
-            Way::Give => match w {
-                Wait::Nothing => false,
-                Wait::Request => v < MOST_VALUE,
-                Wait::Reserve => writer,
-                Wait::Enter => 0 < readers,
-            },
-        }
+// Whether a number with this value and this bolt can be taken, or given back. These two are all that it depends on: of
+// locks that go by value, the machine would copy every place for it.
+pub fn can_move(way: Way, w: Wait, v: u16, b: Bolt) -> bool
+    ensures { λ r. ⌜ ((l : Locks) (x : ℕ) → v ≡ valueAt l x → b ≡ boltAt l x → r ≡ canMove way w l x) ⌝ }
+{
+    let writer = b.writer;
+    let readers = b.readers;
+    match way {
+        Way::Take => match w {
+            Wait::Nothing => false,
+            Wait::Request => 0 < v,
+            Wait::Reserve => if writer { false } else { readers == 0 },
+            Wait::Enter => if writer { false } else { readers < MOST_VALUE },
+        },
+        Way::Give => match w {
+            Wait::Nothing => false,
+            Wait::Request => v < MOST_VALUE,
+            Wait::Reserve => writer,
+            Wait::Enter => 0 < readers,
+        },
     }
+}
 
+impl Locks {
     fn move_one(mut self, way: Way, w: Wait, x: usize) -> Locks
         requires { ⌜ x < mostLocks ⌝ }
         requires { ⌜ canMove way w self x ≡ true ⌝ }
@@ -117,7 +115,8 @@ impl Locks {
     {
         for i in 0..n {
             let x = list[i] as usize;
-            if !self.can_move(way, w, x) {
+            let b = self.bolts[x];
+            if !can_move(way, w, self.semaphores[x], b) {
                 return false;
             }
         }

@@ -6,6 +6,9 @@ ghost use Rattle.survey.specs.Looks.{unfit, surveyed};
 use calendar::LAST_INSTANT;
 use calendar::Moment;
 use calendar::is_time_of_day;
+use granting::is_missing;
+use granting::no_writers;
+use granting::writers_of;
 use machine::Running;
 use machine::State;
 use survey::Survey;
@@ -45,6 +48,7 @@ pub fn survey(k: State) -> Survey
     }
     let n = counts.tasks as usize;
     let locks = k.locks;
+    let mut writers = no_writers();
     let mut soonest = 0;
     let mut lead = no_lead();
     for i in 0..n {
@@ -89,8 +93,11 @@ pub fn survey(k: State) -> Survey
         let wait = t.wait;
         let hold = t.hold;
         if !is_at_ease(wait, hold) {
+            if is_missing(writers.known, wait) {
+                writers = writers_of(k);
+            }
             let t = k.tasks[i];
-            if !is_busy_ok(counts, locks, t) {
+            if !is_busy_ok(counts, locks, writers, t) {
                 return unfit();
             }
             let hold = t.hold;

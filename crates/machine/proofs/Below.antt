@@ -8,9 +8,8 @@ use native.Mathlib.Omega.{arith}
 use lib.Dec.{ltb}
 use borrow.Author.Tests.{ltb-true, ltb-false}
 use Rattle.lock.proofs.Bools.{byBool, byEq, contra, both, and-both}
-use Rattle.machine.specs.Sums.{sumBelow}
+use Rattle.machine.specs.Sums.{sumBelow, allBelow}
 use Rattle.machine.specs.Running.{mostUrgent, better}
-use Rattle.machine.specs.Test.{allBelow}
 use Rattle.machine.specs.declared.Running.{Running}
 use Rattle.machine.specs.declared.Running.the-variants.{Idle, Runs}
 
@@ -27,6 +26,11 @@ pub all-from : (n : ℕ) (f : ℕ → Bool) → ((i : ℕ) → i < n → f i ≡
 unfolding allBelow
 all-from zero f h = refl
 all-from (suc n) f h = and-both (all-from n f (λ i l. h i (omega arith))) (h n (omega arith))
+
+pub all-same : (n : ℕ) (f g : ℕ → Bool) → ((i : ℕ) → i < n → f i ≡ g i) → allBelow n f ≡ allBelow n g
+unfolding allBelow
+all-same zero f g h = refl
+all-same (suc n) f g h = rw (all-same n f g (λ i l. h i (omega arith)), h n (omega arith))
 
 -- ---- the most urgent
 

@@ -26,9 +26,9 @@ use Rattle.task.specs.declared.Task.{Task}
 use Rattle.machine.specs.declared.Counts.{Counts}
 use Rattle.machine.specs.declared.State.{State}
 use Rattle.machine.specs.State.{taskAt, countOf, freshTask, withState, withCounts, withClock}
-use Rattle.machine.specs.Granting.{available, servable}
+use Rattle.machine.specs.Granting.{unopposed, available, servable}
 use Rattle.machine.specs.Test.{isPriority, scheduleOk, continuationOk}
-use Rattle.machine.proofs.Granting.{could-alike}
+use Rattle.machine.proofs.Granting.{could-alike, unopposed-more}
 use Rattle.machine.specs.Calls.{addTask, addSemaphore, addBolt, addInterrupt}
 use Rattle.machine.proofs.Passed.{Passed, Fits, room-task, room-semaphore, room-bolt, room-interrupt}
 use Rattle.machine.proofs.Facts.{TaskOk, Bounded, bounded-of, StateOk}
@@ -79,14 +79,16 @@ pub fresh-unwaiting : (p : ℕ) → waiting (freshTask p .wait) ≡ false
 unfolding freshTask
 fresh-unwaiting p = refl
 
--- A list of declared numbers that could not be granted still cannot, where their locks are as they were.
+-- A list of declared numbers that could not be granted still cannot, where their locks and writers are as they were.
 stuck-stays : (day : ℕ) (k : State) → StateOk day k → (n : ℕ) (ts : List Task) (r : Locks) (i : ℕ) → taskAt ts i ≡ taskAt (k .tasks) i
-    → ((w : Wait) (y : ℕ) → y < countOf (k .counts) w → free w r y ≡ free w (k .locks) y) → i < k .counts .tasks → servable n ts r i ≡ false
+    → ((w : Wait) (y : ℕ) → y < countOf (k .counts) w → free w r y ≡ free w (k .locks) y)
+    → ((q y : ℕ) → unopposed n ts q y ≡ unopposed (k .counts .tasks) (k .tasks) q y) → i < k .counts .tasks → servable n ts r i ≡ false
 unfolding available
-stuck-stays day k h n ts r i e f l =
+stuck-stays day k h n ts r i e f g l =
     let t = taskAt (k .tasks) i in
     rw e (byBool (waiting (t .wait))
-    (λ w. rw (could-alike n ts r (t .current) (t .wait) (wanted t) (k .counts .tasks) (k .tasks) (k .locks) (countOf (k .counts) (t .wait)) (h .tasks-ok i l .listed w .below) (f (t .wait))) (h .stuck i l))
+    (λ w. rw (could-alike n ts r (t .current) (t .wait) (wanted t) (k .counts .tasks) (k .tasks) (k .locks) (countOf (k .counts) (t .wait)) (h .tasks-ok i l .listed w .below)
+    (λ y z. rw (f (t .wait) y z, g (t .current) y))) (h .stuck i l))
     (λ w. rw w))
 
 -- ---- room and ranges
@@ -137,7 +139,8 @@ module _ (day : ℕ) (k : State) (h : StateOk day k) (c : Call) where
         tasks-ok = λ i l. byEq i n (λ z. rw (z, at-new) (fresh-ok day _ q (priority-DT b p)))
             (λ z. rw (getD-set-other (k .tasks) n i (freshTask q) noTask z) (task-more day (k .counts) _ _ (record { semaphores = omega arith; bolts = omega arith; interrupts = omega arith }) (h .tasks-ok i (omega arith))));
         stuck = λ i l. byEq i n (λ z. rw (z, at-new, fresh-unwaiting q))
-            (λ z. stuck-stays day k h (n + 1) (set (k .tasks) n (freshTask q)) (k .locks) i (getD-set-other (k .tasks) n i (freshTask q) noTask z) (λ w y o. refl) (omega arith));
+            (λ z. stuck-stays day k h (n + 1) (set (k .tasks) n (freshTask q)) (k .locks) i (getD-set-other (k .tasks) n i (freshTask q) noTask z) (λ w y o. refl)
+            (λ u y. unopposed-more n (k .tasks) _ u y (λ j o. getD-set-other (k .tasks) n j (freshTask q) noTask (λ z. omega arith)) (rw (at-new) (fresh-unwaiting q))) (omega arith));
       }
 
   -- The tasks stay, and so do the locks that were declared before.
@@ -151,7 +154,7 @@ module _ (day : ℕ) (k : State) (h : StateOk day k) (c : Call) where
         counts-ok = o;
         bounded = b;
         tasks-ok = λ i l. task-more day (k .counts) m _ q (h .tasks-ok i (rw e at l));
-        stuck = λ i l. stuck-stays day k h (m .tasks) (k .tasks) r i refl f (rw e at l);
+        stuck = λ i l. stuck-stays day k h (m .tasks) (k .tasks) r i refl f (λ u y. rw e) (rw e at l);
       }
 
   pub semaphore-added : Passed day DS k c → StateOk day (addSemaphore (c .head .first) k)

@@ -1,21 +1,30 @@
 -- What could be granted: what it is good for, and what it looks at.
-use mathlib.Core.Path.{_≡_, refl}
-use mathlib.Core.Bool.{true}
+use mathlib.Core.Path.{_≡_, refl, sym, _∙_}
+use mathlib.Core.Bool.{true, false, and-true}
 use mathlib.Core.List.{List}
-use Prim.Native.Nat.{ℕ, _<_}
+use Prim.Native.Nat.{ℕ, _+_, _<_}
+use native.Mathlib.Numerals.{add-one}
 use lib.Dec.{ltb}
-use Rattle.lock.specs.Locks.{every, grantable}
+use Rattle.lock.specs.Locks.{waiting, sameKind, free, every, grantable}
 use Rattle.lock.specs.declared.Wait.{Wait}
+use Rattle.lock.specs.declared.Wait.the-variants.{Nothing, Request, Reserve, Enter}
 use Rattle.lock.specs.declared.Locks.{Locks}
-use Rattle.lock.proofs.Lists.{every-below}
+use Rattle.lock.proofs.Bools.{byBool, contra, both}
+use Rattle.lock.proofs.Lists.{every-below, every-alike, every-then}
+use Rattle.task.specs.State.{wanted}
 use Rattle.task.specs.declared.Task.{Task}
-use Rattle.machine.specs.Granting.{available, couldBeGranted}
+use Rattle.machine.specs.Sums.{allBelow}
+use Rattle.machine.specs.State.{taskAt}
+use Rattle.machine.specs.Granting.{goesBefore, unopposed, available, couldBeGranted, servable}
+use Rattle.machine.proofs.Below.{all-same}
+
+-- ---- a list
 
 module _ (n : ℕ) (ts : List Task) (r : Locks) (q : ℕ) (w : Wait) (l : List ℕ) where
   -- Each number of it is free.
   pub could-free : couldBeGranted n ts r q w l ≡ true → grantable w r l ≡ true
   unfolding couldBeGranted available
-  could-free e = e
+  could-free e = every-then (available n ts r q w) (free w r) l (λ x h. both (free w r x) _ h .0) e
 
   -- Only its own numbers count.
   pub could-alike : (n′ : ℕ) (ts′ : List Task) (r′ : Locks) (m : ℕ) → every (λ x. ltb x m) l ≡ true
@@ -23,7 +32,51 @@ module _ (n : ℕ) (ts : List Task) (r : Locks) (q : ℕ) (w : Wait) (l : List �
   unfolding couldBeGranted
   could-alike n′ ts′ r′ m = every-below (available n ts r q w) (available n′ ts′ r′ q w) m l
 
-  -- The locks alone decide.
-  pub could-locks : (n′ : ℕ) (ts′ : List Task) (q′ : ℕ) → couldBeGranted n ts r q w l ≡ couldBeGranted n′ ts′ r q′ w l
-  unfolding couldBeGranted available
-  could-locks n′ ts′ q′ = refl
+-- ---- writers who wait
+
+-- The tasks count by whether they go before.
+pub unopposed-same : (n : ℕ) (ts ts′ : List Task) (q x : ℕ) → ((i : ℕ) → i < n → goesBefore q x (taskAt ts i) ≡ goesBefore q x (taskAt ts′ i))
+    → unopposed n ts q x ≡ unopposed n ts′ q x
+unfolding unopposed
+unopposed-same n ts ts′ q x h = all-same n _ _ (λ i l. rw (h i l))
+
+-- Who doesn't wait goes before nobody.
+pub idle-before : (q x : ℕ) (t : Task) → waiting (t .wait) ≡ false → goesBefore q x t ≡ false
+idle-before q x t e = rw (go (t .wait) e)
+  where
+    go : (w : Wait) → waiting w ≡ false → sameKind w Reserve ≡ false
+    go Nothing e = refl
+    go Request e = refl
+    go Reserve e = contra refl e
+    go Enter e = refl
+
+-- One more task, that waits for nothing, changes nothing.
+pub unopposed-more : (n : ℕ) (ts ts′ : List Task) (q x : ℕ) → ((i : ℕ) → i < n → taskAt ts′ i ≡ taskAt ts i) → waiting (taskAt ts′ n .wait) ≡ false
+    → unopposed (n + 1) ts′ q x ≡ unopposed n ts q x
+unfolding unopposed allBelow
+unopposed-more n ts ts′ q x h e =
+    rw (add-one, idle-before q x (taskAt ts′ n) e, and-true) (all-same n _ _ (λ i l. rw (h i l)))
+
+-- ---- tasks that wait alike
+
+-- For nothing, or for the same list at the same priority.
+pub record WaitsAlike (t u : Task) : Type 0 where
+  pub idle : waiting (t .wait) ≡ false → waiting (u .wait) ≡ false
+  pub same : waiting (t .wait) ≡ true → (u .wait ≡ t .wait) × (u .len ≡ t .len) × (u .list ≡ t .list) × (u .current ≡ t .current)
+
+before-alike : (q x : ℕ) (t u : Task) → WaitsAlike t u → goesBefore q x t ≡ goesBefore q x u
+before-alike q x t u h =
+    byBool (waiting (t .wait)) (λ e. let s = h .same e in rw (s .0, s .1, s .2, s .3))
+    (λ e. idle-before q x t e ∙ sym (idle-before q x u (h .idle e)))
+
+-- The same of them could be granted.
+pub servable-alike : (n : ℕ) (ts ts′ : List Task) (r : Locks) → ((i : ℕ) → i < n → WaitsAlike (taskAt ts i) (taskAt ts′ i))
+    → (i : ℕ) → i < n → servable n ts r i ≡ servable n ts′ r i
+unfolding couldBeGranted available
+servable-alike n ts ts′ r h i l =
+    let t = taskAt ts i in
+    byBool (waiting (t .wait))
+    (λ e. let s = h i l .same e in rw (s .0, s .1, s .2, s .3, e)
+    (every-alike (available n ts r (t .current) (t .wait)) (available n ts′ r (t .current) (t .wait)) (wanted t)
+    (λ x. rw (unopposed-same n ts ts′ (t .current) x (λ j b. before-alike (t .current) x (taskAt ts j) (taskAt ts′ j) (h j b))))))
+    (λ e. rw (e, h i l .idle e))

@@ -35,6 +35,9 @@ pub mod Accepted
 pub mod Continuing
 pub mod Undisturbed
 pub mod Unholding
+pub mod Sorted
+pub mod Helping
+pub mod OnePass
 -- Proofs of the marked cases.
 pub mod Computing
 pub mod Waits
@@ -42,3 +45,4 @@ pub mod Evening
 pub mod Marked
 pub mod Slips
 pub mod Continued
+pub mod Writers

@@ -3,7 +3,6 @@ use mathlib.Core.Path.{_≡_, refl, ap, _∙_}
 use mathlib.Core.Bool.{Bool, true, false, not, _&&_, _||_}
 use mathlib.Core.List.{List}
 use Prim.Native.Nat.{ℕ, zero, suc, _<_}
-use native.Mathlib.Omega.{arith}
 use lib.Dec.{leb, ltb}
 use borrow.Author.Tests.{ltb-true}
 use Rattle.calendar.specs.Limits.{lastInstant, isTimeOfDay}
@@ -31,12 +30,13 @@ use Rattle.machine.specs.declared.Sort.the-variants.{Declaration, OneTas
 use Rattle.machine.specs.State.{taskAt, countOf, withState}
 use Rattle.machine.specs.Running.{urgency, runningOf, runner}
 use Rattle.machine.specs.Granting.{available, couldBeGranted, servable}
-use Rattle.machine.specs.Test.{taskOk, allBelow, countsOk, nobodyServable, valid}
+use Rattle.machine.specs.Sums.{allBelow}
+use Rattle.machine.specs.Test.{taskOk, countsOk, nobodyServable, valid}
 use Rattle.machine.specs.Sorts.{sortOf, givenKind, naming, runnerAt, placeOf}
 use Rattle.machine.specs.Refusals.{listDeclared, declaredBy, declaredIn, formalRefusal, refusalBy, stateRefusal}
 use Rattle.machine.proofs.Urgency.{scan-same}
-use Rattle.machine.proofs.Below.{all-at}
-use Rattle.machine.proofs.Granting.{could-alike}
+use Rattle.machine.proofs.Below.{all-at, all-same}
+use Rattle.machine.proofs.Granting.{could-alike, unopposed-same}
 use Rattle.machine.proofs.Sorts.{other-mark}
 use Rattle.machine.proofs.Passed.{refusalOf, formal, Listed, listed-task}
 
@@ -53,11 +53,6 @@ and-then false b b′ h = refl
 before-then : (n m m′ : ℕ) → (n ≡ 0 → m ≡ m′) → before n m ≡ before n m′
 before-then zero m m′ h = h refl
 before-then (suc n) m m′ h = refl
-
-all-same : (n : ℕ) (f g : ℕ → Bool) → ((i : ℕ) → i < n → f i ≡ g i) → allBelow n f ≡ allBelow n g
-unfolding allBelow
-all-same zero f g h = refl
-all-same (suc n) f g h = rw (all-same n f g (λ i l. h i (omega arith)), h n (omega arith))
 
 module _ (n : Counts) (ts ts′ : List Task) (same : (i : ℕ) → i < n .tasks → taskAt ts i ≡ taskAt ts′ i) where
   pub urgency-same : (i : ℕ) → i < n .tasks → urgency ts i ≡ urgency ts′ i
@@ -77,7 +72,8 @@ module _ (n : Counts) (ts ts′ : List Task) (same : (i : ℕ) → i < n .tasks 
         → couldBeGranted (n .tasks) ts r q w l ≡ couldBeGranted (n .tasks) ts′ r′ q w l
     unfolding available
     could-same q w l e =
-        could-alike (n .tasks) ts r q w l (n .tasks) ts′ r′ (countOf n w) e (λ x lt. can-alike _ _ r r′ seen Take w x (rw (count-below n w) at lt))
+        could-alike (n .tasks) ts r q w l (n .tasks) ts′ r′ (countOf n w) e
+        (λ x lt. rw (can-alike _ _ r r′ seen Take w x (rw (count-below n w) at lt), unopposed-same (n .tasks) ts ts′ q x (λ i z. rw (same i z))))
 
     pub servable-same : (i : ℕ) → i < n .tasks → Listed n (taskAt ts i) → servable (n .tasks) ts r i ≡ servable (n .tasks) ts′ r′ i
     servable-same i l h =

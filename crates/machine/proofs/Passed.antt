@@ -25,7 +25,8 @@ use Rattle.machine.specs.declared.Counts.{Counts}
 use Rattle.machine.specs.declared.State.{State}
 use Rattle.machine.specs.declared.Running.{Running}
 use Rattle.machine.specs.State.{mostTasks, mostSemaphores, mostBolts, mostInterrupts, taskAt, countOf}
-use Rattle.machine.specs.Test.{between, isPriority, keptOk, holdOk, waitOk, scheduleOk, continuationOk, taskOk, allBelow, countsOk, nobodyServable, valid}
+use Rattle.machine.specs.Sums.{allBelow}
+use Rattle.machine.specs.Test.{between, isPriority, keptOk, holdOk, waitOk, scheduleOk, continuationOk, taskOk, countsOk, nobodyServable, valid}
 use Rattle.machine.specs.Running.{someone}
 use Rattle.machine.specs.Sorts.{sortOf, declares, needsRunner, givenKind}
 use Rattle.machine.specs.Refusals.{declaredIn, roomFor, formalRefusal, unreturnable, isContinue, refusalBy, stateRefusal}

@@ -22,7 +22,9 @@ pub mod Beyond
 pub mod Scripts
 pub mod Quiet
 pub mod Continuing
--- What it answers: document 01's marked cases and slips, and continuations.
+pub mod OnePass
+-- What it answers: document 01's marked cases and slips, continuations, and waiting writers.
 pub mod Marked
 pub mod Slips
 pub mod Continued
+pub mod Writers

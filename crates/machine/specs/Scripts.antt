@@ -5,7 +5,7 @@ use lib.ListN.{length, replicate}
 use Rattle.calendar.specs.Limits.{hour}
 use Rattle.layout.specs.Fields.{bytesOf}
 use Rattle.layout.specs.declared.Mark.{Mark}
-use Rattle.layout.specs.declared.Mark.the-variants.{DT, DS, IT, DC, AC, TE, SU, PR, CO, RE, RQ, RL, TR, TG, EI, TI}
+use Rattle.layout.specs.declared.Mark.the-variants.{DT, DS, DB, IT, DC, AC, TE, SU, PR, CO, EN, RE, RQ, RL, TR, RS, FR, ET, LV, TG, EI, TI}
 
 -- n times the same. It is shut, so that a row of a million records is never written out.
 unfoldable pub row {ℓ} : {A : Type ℓ} → ℕ → A → List A
@@ -45,6 +45,9 @@ declareTask p = plain DT 0 p [] 0
 abbrev pub declareSemaphore : ℕ → List ℕ
 declareSemaphore v = plain DS 0 0 [] v
 
+abbrev pub declareBolt : List ℕ
+declareBolt = plain DB 0 0 [] 0
+
 abbrev pub declareInterrupt : List ℕ
 declareInterrupt = plain IT 0 0 [] 0
 
@@ -64,6 +67,10 @@ suspend i = plain SU i 0 [] 0
 abbrev pub prevent : ℕ → List ℕ
 prevent i = plain PR i 0 [] 0
 
+-- The running task ends.
+abbrev pub end : List ℕ
+end = plain EN 0 0 [] 0
+
 abbrev pub resumeAfter : ℕ → List ℕ
 resumeAfter d = plain RE 0 0 [] d
 
@@ -75,6 +82,18 @@ release l = plain RL 0 0 l 0
 
 abbrev pub try : ℕ → List ℕ
 try s = plain TR 0 0 (s ∷ []) 0
+
+abbrev pub reserve : List ℕ → List ℕ
+reserve l = plain RS 0 0 l 0
+
+abbrev pub free : List ℕ → List ℕ
+free l = plain FR 0 0 l 0
+
+abbrev pub enter : List ℕ → List ℕ
+enter l = plain ET 0 0 l 0
+
+abbrev pub leave : List ℕ → List ℕ
+leave l = plain LV 0 0 l 0
 
 abbrev pub enable : ℕ → List ℕ
 enable i = plain EI i 0 [] 0
@@ -112,7 +131,11 @@ starting m i q k n e f p t =
 abbrev pub activation : ℕ → ℕ → ℕ → ℕ → ℕ → ℕ → ℕ → List ℕ
 activation i k n e f p t = starting AC i 0 k n e f p t
 
-infix 20 AT_ACTIVATE_ AT_ALL_UNTIL_ACTIVATE_ AFTER_ACTIVATE_ ALL_DURING_ACTIVATE_ WHEN_AFTER_ACTIVATE_
+infix 20 ACTIVATE_PRIO_ AT_ACTIVATE_ AT_ALL_UNTIL_ACTIVATE_ AFTER_ACTIVATE_ ALL_DURING_ACTIVATE_ WHEN_AFTER_ACTIVATE_
+-- The priority of that activation only.
+abbrev pub ACTIVATE_PRIO_ : ℕ → ℕ → List ℕ
+ACTIVATE i PRIO p = starting AC i p 0 0 0 0 0 0
+
 abbrev pub AT_ACTIVATE_ : ℕ → ℕ → List ℕ
 AT t ACTIVATE i = activation i 1 0 0 t 0 0
 

@@ -1,6 +1,6 @@
 -- The kernel test: what passes it isn't refused with 1. Places beyond the counts aren't looked at.
 use mathlib.Core.Bool.{Bool, true, not, _&&_, _||_}
-use Prim.Native.Nat.{ℕ, zero, suc}
+use Prim.Native.Nat.{ℕ}
 use lib.Dec.{leb, ltb}
 use Rattle.calendar.specs.Limits.{longestDuration, lastInstant, mostInstant, isTimeOfDay, isDuration, isPeriod}
 use Rattle.calendar.specs.declared.Instant.{Instant}
@@ -22,6 +22,7 @@ use Rattle.schedule.specs.declared.Schedule.{Schedule}
 use Rattle.task.specs.declared.Task.{Task}
 use Rattle.machine.specs.declared.Counts.{Counts}
 use Rattle.machine.specs.declared.State.{State}
+use Rattle.machine.specs.Sums.{allBelow}
 use Rattle.machine.specs.State.{mostTasks, mostSemaphores, mostBolts, mostInterrupts, taskAt, countOf}
 use Rattle.machine.specs.Granting.{servable}
 
@@ -100,11 +101,6 @@ taskOk day n t =
     && continuationOk (n .interrupts) (t .continuation) (t .given)
 
 -- ---- the kernel
-
--- Each number below n passes a test.
-unfoldable pub allBelow : ℕ → (ℕ → Bool) → Bool
-allBelow zero f = true
-allBelow (suc n) f = allBelow n f && f n
 
 unfoldable pub countsOk : Counts → Bool
 countsOk n =

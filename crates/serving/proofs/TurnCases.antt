@@ -17,7 +17,8 @@ use Rattle.task.specs.declared.Task.{Task}
 use Rattle.task.proofs.Waits.{NoNewWait}
 use Rattle.machine.specs.Activation.{endOf}
 use Rattle.machine.specs.State.{mostTasks, taskAt, withState}
-use Rattle.machine.specs.Test.{waitOk, taskOk, allBelow, countsOk, valid}
+use Rattle.machine.specs.Sums.{allBelow}
+use Rattle.machine.specs.Test.{waitOk, taskOk, countsOk, valid}
 use Rattle.machine.specs.declared.Counts.{Counts}
 use Rattle.machine.specs.declared.State.{State}
 use Rattle.machine.proofs.Below.{all-at, all-from}

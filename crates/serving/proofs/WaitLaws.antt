@@ -16,7 +16,8 @@ use Rattle.task.specs.declared.Task.{Task}
 use Rattle.machine.specs.State.{mostTasks, taskAt, countOf}
 use Rattle.machine.specs.Granting.{available, couldBeGranted, servable}
 use Rattle.machine.specs.Serving.{grantTo}
-use Rattle.machine.specs.Test.{between, allBelow, countsOk, waitOk}
+use Rattle.machine.specs.Sums.{allBelow}
+use Rattle.machine.specs.Test.{between, countsOk, waitOk}
 use Rattle.machine.specs.declared.Counts.{Counts}
 use Rattle.machine.specs.declared.State.{State}
 use Rattle.machine.proofs.Below.{all-at, all-from}

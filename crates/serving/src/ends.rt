@@ -1,4 +1,4 @@
-// Serving, and what ends every accepted call but a tick.
+// Serving, and what ends every accepted call; of ticks, those after which somebody may have to be served.
 ghost use mathlib.Core.Path.{_≡_};
 ghost use mathlib.Core.Bool.{true};
 ghost use Prim.Native.Nat.{_<_};
@@ -11,6 +11,10 @@ ghost use Rattle.machine.specs.Work.{onlyEnabled};
 ghost use Rattle.survey.specs.Looks.{waitsOk};
 ghost use Rattle.serving.specs.Ends.{served, withServed, servedOf, workHere, answerOf};
 use calendar::Instant;
+use granting::is_available;
+use granting::is_missing;
+use granting::no_writers;
+use granting::writers_of;
 use lock::Way;
 use lock::is_waiting;
 use machine::Answer;
@@ -18,8 +22,6 @@ use machine::Running;
 use machine::Sets;
 use machine::State;
 use machine::Stepped;
-use survey::granting::Asker;
-use survey::granting::is_available;
 use survey::scan::can_run;
 use survey::scan::is_someone;
 use survey::scan::no_lead;
@@ -43,6 +45,7 @@ fn next_served(k: State) -> Running
     let counts = k.counts;
     let n = counts.tasks as usize;
     let locks = k.locks;
+    let mut writers = no_writers();
     let mut lead = no_lead();
     'tasks: for i in 0..n {
         let t = k.tasks[i];
@@ -58,10 +61,13 @@ fn next_served(k: State) -> Running
         let m = k.tasks[i].len as usize;
         let t = k.tasks[i];
         let list = t.list;
-        let by = Asker { priority };
+        if is_missing(writers.known, wait) {
+            writers = writers_of(k);
+        }
         for j in 0..m {
             let x = list[j] as usize;
-            if !is_available(locks, by, wait, x) {
+            let b = locks.bolts[x];
+            if !is_available(locks.semaphores[x], b, writers.first[x], priority, wait) {
                 continue 'tasks;
             }
         }
@@ -171,8 +177,8 @@ fn finished_serving(k: State, m: Sets) -> Stepped
     }
 }
 
-// Every accepted call but a tick ends so. The kernel has had its work done, and the sets say whom it marked. Where
-// nobody waits or none that waits could be granted, there is nobody to serve.
+// So an accepted call ends. The kernel has had its work done, and the sets say whom it marked. Where nobody waits or
+// none that waits could be granted, there is nobody to serve.
 pub fn finished(k: State, m: Sets) -> Stepped
     requires { ⌜ waitsOk k ≡ true ⌝ }
     ensures { λ r. ⌜ r ≡ finish k (workHere k m) ⌝ }

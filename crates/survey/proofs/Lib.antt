@@ -1,5 +1,4 @@
 -- Laws that the proofs of the code share.
-pub mod Owned
 pub mod LeadLaws
 pub mod PlaceLaws
 pub mod TestLaws

@@ -21,13 +21,14 @@ use Rattle.task.specs.State.{restOk, wanted}
 use Rattle.task.specs.declared.Task.{Task}
 use Rattle.machine.specs.State.{mostTasks, taskAt, countOf}
 use Rattle.machine.specs.Granting.{couldBeGranted}
-use Rattle.machine.specs.Test.{between, isPriority, keptOk, holdOk, waitOk, scheduleOk, continuationOk, taskOk, allBelow, countsOk, nobodyServable, valid}
+use Rattle.machine.specs.Sums.{allBelow}
+use Rattle.machine.specs.Test.{between, isPriority, keptOk, holdOk, waitOk, scheduleOk, continuationOk, taskOk, countsOk, nobodyServable, valid}
 use Rattle.machine.specs.declared.Counts.{Counts}
 use Rattle.machine.specs.declared.State.{State}
 use Rattle.machine.proofs.Below.{all-at}
 use Rattle.machine.proofs.Passed.{counts-fit, count-fits}
 use Rattle.survey.specs.Looks.{waitSettled}
-use Rattle.survey.proofs.Owned.{Owned, values-small, readers-small}
+use Rattle.granting.proofs.Owned.{Owned, values-small, readers-small}
 use Rattle.survey.proofs.TaskFit.{fit}
 
 -- ---- the first n numbers of a list

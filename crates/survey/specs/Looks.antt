@@ -15,7 +15,8 @@ use Rattle.machine.specs.State.{taskAt}
 use Rattle.machine.specs.Granting.{couldBeGranted}
 use Rattle.machine.specs.NextEvent.{nextEvent}
 use Rattle.machine.specs.Running.{runner}
-use Rattle.machine.specs.Test.{allBelow, countsOk, holdOk, waitOk, valid}
+use Rattle.machine.specs.Sums.{allBelow}
+use Rattle.machine.specs.Test.{countsOk, holdOk, waitOk, valid}
 use Rattle.machine.specs.declared.Counts.{Counts}
 use Rattle.machine.specs.declared.Sets.{Sets}
 use Rattle.machine.specs.declared.State.{State}

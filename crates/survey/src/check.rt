@@ -8,12 +8,11 @@ ghost use lib.ListN.{take};
 ghost use Rattle.lock.specs.Locks.{every};
 ghost use Rattle.task.specs.declared.Task.{Task};
 ghost use Rattle.survey.specs.Looks.{atEase, waitSettled, busyOk};
+ghost use Rattle.granting.specs.Writers.{TellsFor};
 ghost use Rattle.calendar.specs.Limits.{day};
 ghost use Rattle.schedule.specs.Alarms.{planned};
 ghost use Rattle.machine.specs.State.{countOf};
 ghost use Rattle.machine.specs.Test.{mostPriority, isPriority, isStored, holdOk, keptOk, endOk, momentOk, listenerOk, alarmOk, lastOk, termsOk, scheduleOk, continuationOk, countsOk};
-use crate::granting::Asker;
-use crate::granting::could_be_granted;
 use calendar::End;
 use calendar::Instant;
 use calendar::LONGEST_DURATION;
@@ -22,6 +21,8 @@ use calendar::Moment;
 use calendar::is_duration;
 use calendar::is_period;
 use calendar::is_time_of_day;
+use granting::Writers;
+use granting::could_be_granted;
 use layout::Numbers;
 use lock::Locks;
 use lock::MOST_LOCKS;
@@ -224,9 +225,9 @@ pub fn are_below(list: Numbers, n: usize, most: u8) -> bool
 }
 
 // A wait's list names one to four numbers, none twice, all declared, and could not be granted.
-fn is_wait_settled(n: Counts, locks: Locks, t: Task) -> bool
+fn is_wait_settled(n: Counts, locks: Locks, writers: Writers, t: Task) -> bool
     requires { ⌜ countsOk n ≡ true ⌝ }
-    ensures { λ r. ⌜ ((ts : List Task) → r ≡ waitSettled n ts locks t) ⌝ }
+    ensures { λ r. ⌜ ((ts : List Task) → TellsFor (t .wait) (n .tasks) ts writers → r ≡ waitSettled n ts locks t) ⌝ }
 {
     let wait = t.wait;
     if !is_waiting(wait) {
@@ -243,16 +244,13 @@ fn is_wait_settled(n: Counts, locks: Locks, t: Task) -> bool
     if !are_below(list, len, count_of(n, wait)) {
         return false;
     }
-    let by = Asker {
-        priority: t.current,
-    };
-    !could_be_granted(locks, by, wait, len, list)
+    !could_be_granted(locks, writers, t.current, wait, len, list)
 }
 
 // The test of a task that isn't at ease, beside its priorities, its schedule and a start kept back.
-pub fn is_busy_ok(n: Counts, locks: Locks, t: Task) -> bool
+pub fn is_busy_ok(n: Counts, locks: Locks, writers: Writers, t: Task) -> bool
     requires { ⌜ countsOk n ≡ true ⌝ }
-    ensures { λ r. ⌜ ((ts : List Task) → r ≡ busyOk n ts locks t) ⌝ }
+    ensures { λ r. ⌜ ((ts : List Task) → TellsFor (t .wait) (n .tasks) ts writers → r ≡ busyOk n ts locks t) ⌝ }
 {
     let hold = t.hold;
     if !t.alive {
@@ -261,7 +259,7 @@ pub fn is_busy_ok(n: Counts, locks: Locks, t: Task) -> bool
     if !is_hold_ok(hold) {
         return false;
     }
-    is_wait_settled(n, locks, t)
+    is_wait_settled(n, locks, writers, t)
 }
 
 pub fn are_counts_ok(n: Counts) -> bool

@@ -1,6 +1,5 @@
 // The parts of a look at a kernel: of the kernel test, the next event and the running task.
 pub mod check;
-pub mod granting;
 pub mod next;
 pub mod scan;
 pub mod sets;

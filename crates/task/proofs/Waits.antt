@@ -95,3 +95,24 @@ module _ (t : Task) where
 
   pub no-wait-rest : (n : Instant) (a : Alarm) → NoNewWait t (restTurn n a t .task)
   no-wait-rest n a w = same (withHold Suspended t) (restTurn n a t .task) (like-later n a 0 true (withHold Suspended t))
+
+-- ---- a tick ends no wait
+
+due-keeps : (b : Bool) (k : Kept) (p : ℕ) (t : Task) → b ≡ true → SameWait t (dueIf b k p t .task)
+unfolding dueIf
+due-keeps false k p t e = contra e refl
+due-keeps true Empty p t e = (refl, refl, refl)
+due-keeps true (Back q) p t e = (refl, refl, refl)
+
+fall-keeps : (n : Instant) (t : Task) → t .alive ≡ true → SameWait t (fallTurn n t .task)
+unfolding fallTurn
+fall-keeps n t a =
+    byBool (falls n (t .schedule .alarm)) (λ e. rw e (due-keeps (t .alive) (t .kept) _ (withSchedule (advance n (t .schedule)) t) a))
+    (λ e. rw e (refl, refl, refl))
+
+pub tick-keeps-wait : (n : Instant) (t : Task) → t .alive ≡ true → SameWait t (tickTurn n t .task)
+tick-keeps-wait n t a =
+    let u = continueAt n (wake n t) in
+    let h = like-then t (wake n t) u (like-wake n t) (like-continue-at n (wake n t)) in
+    let s = fall-keeps n u (h .alive ∙ a) in
+    (s .0 ∙ h .wait, s .1 ∙ h .len, s .2 ∙ h .list)

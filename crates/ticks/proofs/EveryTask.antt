@@ -1,6 +1,6 @@
 -- The turns of all tasks, one after the other: what the tables and the sets are with the first i turns made.
 use mathlib.Core.Path.{_≡_, refl, sym, _∙_, ap}
-use mathlib.Core.Bool.{Bool, true, false, _&&_}
+use mathlib.Core.Bool.{Bool, true, false, not, _&&_}
 use mathlib.Core.List.{List, [], _∷_, _++_, map}
 use Prim.Native.Nat.{ℕ, zero, suc, _+_, _*_, _^_, _≤_, _<_}
 use native.Mathlib.Nat.{not-suc-le-zero, pow-suc, one-mul}
@@ -9,18 +9,20 @@ use native.Mathlib.Omega.{arith}
 use lib.Bits.{bitOr, or-shifted-r}
 use lib.ListN.{length, take, drop, set, length-map}
 use lib.Seq.{length-take-le, set-getD}
-use borrow.Author.Tests.{lt-ltb, le-ltb}
+use lib.Dec.{eqb}
+use borrow.Author.Tests.{lt-ltb, le-ltb, eqb-true, not-false}
 use Rattle.calendar.specs.Limits.{lastInstant}
 use Rattle.calendar.specs.declared.Instant.{Instant}
 use Rattle.layout.specs.declared.Mark.the-variants.{TI}
 use Rattle.layout.specs.declared.Call.{Call}
 use Rattle.lock.specs.Locks.{bit, waiting}
-use Rattle.lock.proofs.Bools.{and-both, byBool}
-use Rattle.task.specs.State.{noTask, wanted}
-use Rattle.task.specs.Turns.{unmarked, triggerTurn}
+use Rattle.lock.proofs.Bools.{and-both, byBool, byEq, contra}
+use Rattle.task.specs.State.{noTask, unheld, isKept}
+use Rattle.task.specs.Turns.{unmarked, tickTurn, triggerTurn}
 use Rattle.task.specs.declared.Task.{Task}
 use Rattle.task.specs.declared.Turn.{Turn}
-use Rattle.task.proofs.Waits.{NoNewWait}
+use Rattle.task.proofs.Fairness.{rest-facts}
+use Rattle.task.proofs.Waits.{SameWait, NoNewWait, no-wait-tick, tick-keeps-wait}
 use Rattle.machine.specs.Sets.{setOf, mark, eachSet, noSets}
 use Rattle.machine.specs.State.{mostTasks, taskAt, enabledAt, withState, begunAt}
 use Rattle.machine.specs.Work.{onlyEnabled, turns, everyTurn}
@@ -30,11 +32,12 @@ use Rattle.machine.specs.Test.{valid}
 use Rattle.machine.specs.Refusals.{refusalBy, stateRefusal}
 use Rattle.machine.specs.Calls.{trigger}
 use Rattle.machine.specs.Step.{refuse, finish, orRefuse}
+use Rattle.machine.specs.declared.Counts.{Counts}
 use Rattle.machine.specs.declared.State.{State}
 use Rattle.machine.specs.declared.Stepped.{Stepped}
 use Rattle.machine.proofs.Below.{all-at, all-from, mostUrgent-none}
 use Rattle.machine.proofs.Facts.{TaskOk, task-test, task-untest, nobody-untest}
-use Rattle.machine.proofs.Granting.{could-locks}
+use Rattle.machine.proofs.Granting.{WaitsAlike, servable-alike}
 use Rattle.machine.proofs.Passed.{parts, tested}
 use Rattle.machine.proofs.Works.{turn-at}
 use Rattle.machine.proofs.SetLaws.{members-each, each-same, setOf-lt}
@@ -46,7 +49,6 @@ use Rattle.serving.proofs.TurnCases.{sound}
 use Rattle.machine.specs.declared.Running.{Running}
 use Rattle.machine.specs.declared.Running.the-variants.{Idle}
 use Rattle.serving.proofs.ServeLaws.{served-idle}
-use Rattle.serving.proofs.WaitLaws.{servable-idle}
 
 -- ---- a set with one more place
 
@@ -181,26 +183,62 @@ module _ (day : ℕ) (k : State) (v : valid day k ≡ true) where
       (λ i l. rw (turn-at (k .counts .tasks) f (k .tasks) room i l)
       (wait-of day (k .counts) _ (task-test day (k .counts) _ (keeps (taskAt (k .tasks) i) (task-untest day (k .counts) (taskAt (k .tasks) i) (all-at (k .counts .tasks) _ (sound day k v .tasks) i l))))))))
 
--- ---- turns that begin no wait
+-- ---- turns that begin and end no wait
 
--- They leave nobody to serve.
+-- A turn that makes of a task that waits one that waits for the same, and of no other one that waits.
+pub record KeepsWait (t u : Task) : Type 0 where
+  pub begins : NoNewWait t u
+  pub ends : waiting (t .wait) ≡ true → SameWait t u
+
+-- A turn that leaves its priority to a task that waits.
+abbrev pub Unaltered : Task → Task → Type 0
+Unaltered t u = waiting (u .wait) ≡ true → u .current ≡ t .current
+
+-- The turns f of the first i tasks are such.
+abbrev pub Steady : (Task → Turn) → List Task → ℕ → Type 0
+Steady f ts i = (j : ℕ) → j < i → Unaltered (taskAt ts j) (f (taskAt ts j) .task)
+
+module _ (f : Task → Turn) (ts : List Task) (i : ℕ) (h : Steady f ts i) where
+  steady-next : Unaltered (taskAt ts i) (f (taskAt ts i) .task) → Steady f ts (i + 1)
+  steady-next e j l = byEq j i (λ q. rw q e) (λ q. h j (omega arith))
+
+  -- Task i has had its turn u, of which b says whether it altered the priority of one who waits,
+  pub steady-more : (t : Task) (u : Turn) → t ≡ taskAt ts i → u ≡ f t → {b : Bool} → b ≡ (waiting (u .task .wait) && not (eqb (u .task .current) (t .current))) → b ≡ false → Steady f ts (i + 1)
+  steady-more t u e z said q =
+      steady-next (rw (← e, ← z) (λ w. eqb-true _ _ (not-false _ (sym (rw w at said) ∙ q))))
+
+  -- or was passed over.
+  pub steady-still : f (taskAt ts i) ≡ unmarked (taskAt ts i) → Steady f ts (i + 1)
+  steady-still e = steady-next (rw e (λ w. refl))
+
+-- A tick is such a turn for a task that passes the test.
+pub tick-keeps : (day : ℕ) (n : Counts) (m : Instant) (t : Task) → TaskOk day n t → KeepsWait t (tickTurn m t .task)
+tick-keeps day n m t h =
+    record {
+      begins = no-wait-tick t m;
+      ends = λ w. tick-keeps-wait m t (byBool (t .alive) (λ e. e) (λ e. contra w (rest-facts (t .alive) (isKept (t .kept)) (waiting (t .wait)) (unheld (t .hold)) (h .rests) e .1)));
+    }
+
+alike : (t u : Task) → KeepsWait t u → Unaltered t u → WaitsAlike t u
+alike t u k s =
+    record {
+      idle = λ e. byBool (waiting (u .wait)) (λ w. contra (ap waiting (sym (k .begins w .0)) ∙ w) e) (λ w. w);
+      same = λ e. let x = k .ends e in (x .0, x .1, x .2, s (ap waiting (x .0) ∙ e));
+    }
+
+-- They leave nobody to serve, where nobody is altered.
 pub every-idle : (day : ℕ) (k : State) → valid day k ≡ true → length (k .tasks) ≡ mostTasks → (n : Instant) (f : Task → Turn)
-    → ((t : Task) → NoNewWait t (f t .task)) → nextServed (k .counts .tasks) (served (everyDone k n f) 0) ≡ Idle
+    → ((t : Task) → TaskOk day (k .counts) t → KeepsWait t (f t .task)) → Steady f (k .tasks) (k .counts .tasks)
+    → nextServed (k .counts .tasks) (served (everyDone k n f) 0) ≡ Idle
 unfolding everyTurn
-every-idle day k v long n f new =
+every-idle day k v long n f keeps steady =
     let c = k .counts .tasks in
     let ts = everyTurn k n f .tasks in
     let room : c ≤ length (k .tasks) = omega (arith, long, tested day k v .fits .tasks) in
     mostUrgent-none c _ _
-    (λ i l. byBool (waiting (taskAt ts i .wait))
-    (λ w.
-    let t = taskAt (k .tasks) i in
-    let e : taskAt ts i ≡ f t .task = turn-at c f (k .tasks) room i l in
-    let s = new t (ap (λ (u : Task). waiting (u .wait)) (sym e) ∙ w) in
-    ap (λ (b : Bool). waiting (taskAt ts i .wait) && b)
-    (could-locks c ts (k .locks) (taskAt ts i .current) (taskAt ts i .wait) (wanted (taskAt ts i)) c (k .tasks) (t .current))
-    ∙ rw (e, s .0, s .1, s .2) (nobody-untest k (parts day k v .stuck) i l))
-    (servable-idle c ts (k .locks) i))
+    (λ i l. sym (servable-alike c (k .tasks) ts (k .locks)
+    (λ j b. rw (turn-at c f (k .tasks) room j b) (alike (taskAt (k .tasks) j) (f (taskAt (k .tasks) j) .task) (keeps (taskAt (k .tasks) j) (task-untest day (k .counts) (taskAt (k .tasks) j) (all-at c _ (sound day k v .tasks) j b))) (steady j b))) i l)
+    ∙ nobody-untest k (parts day k v .stuck) i l)
 
 -- The call ends at instant n where nobody is to be served once every task has had its turn.
 pub every-unserved : (k : State) (n : Instant) (f : Task → Turn) {next : State} {s : Sets} {r : Running}
@@ -209,6 +247,14 @@ pub every-unserved : (k : State) (n : Instant) (f : Task → Turn) {next : State
     → record { state = begunAt n next; answer = answerOf 0 r s } ≡ finish k (everyTurn k n f)
 unfolding finish servedOf everyTurn
 every-unserved k n f a b h e = rw (a, b, e, served-idle (everyDone k n f) (everyTurn k n f .sets .granted) h)
+
+-- Or where those who wait have been served at the instant before.
+pub every-served : (k : State) (n : Instant) (f : Task → Turn) {next : State} {s : Sets} {z : Stepped} {next′ : State} {s′ : Sets} {r : Running}
+    → next ≡ everyDone k n f → s ≡ everyTurn k n f .sets → z ≡ finish next (workHere next s)
+    → next′ ≡ z .state → s′ ≡ z .answer .sets → r ≡ z .answer .running
+    → record { state = begunAt n next′; answer = answerOf 0 r s′ } ≡ finish k (everyTurn k n f)
+unfolding finish everyTurn
+every-served k n f a b e x y q = rw (x, y, q, e, a, b)
 
 -- ---- a tick at the last instant is refused
 

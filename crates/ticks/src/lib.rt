@@ -1,8 +1,10 @@
 // The calls that aren't about one task: TI and TG give every task its turn, EI and XI none.
 ghost use mathlib.Core.Path.{_≡_};
-ghost use mathlib.Core.Bool.{true};
+ghost use mathlib.Core.Bool.{true, not, _&&_};
 ghost use Prim.Native.Nat.{_≤_, _<_};
+ghost use lib.Dec.{eqb};
 ghost use Rattle.calendar.specs.Limits.{day, lastInstant};
+ghost use Rattle.lock.specs.Locks.{waiting};
 ghost use Rattle.task.specs.Turns.{triggerTurn};
 ghost use Rattle.machine.specs.State.{mostTasks, withState};
 ghost use Rattle.machine.specs.Running.{runner};
@@ -20,6 +22,8 @@ use calendar::Instant;
 use calendar::LAST_INSTANT;
 use layout::Head;
 use layout::Mark;
+use lock::Wait;
+use lock::is_waiting;
 use machine::Running;
 use machine::Sets;
 use machine::State;
@@ -75,8 +79,17 @@ fn may_come(hold: Hold, start: Instant, continuation: Instant, n: Instant) -> bo
     }
 }
 
+// Whether a task that waits has another priority than before: then who could be granted may have changed.
+fn is_altered(wait: Wait, before: u8, after: u8) -> bool
+    ensures { λ r. ⌜ r ≡ (waiting wait && not (eqb after before)) ⌝ }
+{
+    is_waiting(wait) & (after != before)
+}
+
 // Each declared task's turn at a tick: those that something may come to; the others stay as they are. A task that can
-// run keeps its priority, so the one that ran or one that had its turn runs. No turn begins a wait, so nobody is served.
+// run keeps its priority, so the one that ran or one that had its turn runs. No turn begins or ends a wait, so somebody
+// is to be served only if one who waits has another priority. All ticks end at one place: a second one would cost each
+// of them a copy of the kernel.
 pub fn ticked(mut k: State, r: Running) -> Stepped
     requires { ⌜ valid day k ≡ true ⌝ }
     requires { ⌜ r ≡ runner k ⌝ }
@@ -90,6 +103,7 @@ pub fn ticked(mut k: State, r: Running) -> Stepped
     let counts = k.counts;
     let most = counts.tasks as usize;
     let mut s = no_sets();
+    let mut altered = false;
     let mut lead = no_lead();
     if let Running::Runs(j) = r {
         let at = j as usize;
@@ -107,10 +121,19 @@ pub fn ticked(mut k: State, r: Running) -> Stepped
             let after = u.task;
             k.tasks[i] = after;
             s = put_marks(i, u.marks, s);
+            let wait = after.wait;
+            altered = altered | is_altered(wait, whole.current, after.current);
             lead = lead.against_if(after.is_runnable(), after.current, i);
         }
     }
-    let runner = lead.who();
+    let mut runner = lead.who();
+    if altered {
+        let z = finished(k, s);
+        let answer = z.answer;
+        k = z.state;
+        s = answer.sets;
+        runner = answer.running;
+    }
     Stepped {
         state: begun_at(k, n),
         answer: answer_of(0, runner, s),

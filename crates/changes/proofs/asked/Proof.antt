@@ -2,7 +2,6 @@
 use borrow.Author.Needs.{needs}
 use borrow.Author.Tests.{not-true, not-false}
 use mathlib.Core.Path.{sym, _∙_}
-use mathlib.Core.List.{[]}
 use Rattle.machine.specs.Calls.{asks}
 use Rattle.machine.proofs.Granting.{could-free}
 use Rattle.changes.proofs.asked.Statement.{statement}
@@ -11,28 +10,30 @@ use Rattle.changes.proofs.asked.Tie as tie
 move-all-requires : tie.Need-move-all-requires
 move-all-requires c κs =
     let g = c .before in
-    let p = g .before .before .pre in
-    (p .short, (p .below, (p .once, could-free 0 [] _ _ _ _ (sym (g .could-be-granted .ensures 0 []) ∙ c .if1 .taken))))
+    let s = g .before .before .pre in
+    let p = s .0 in
+    let o = s .1 in
+    (p .short, (p .below, (p .once, could-free (o .0) (o .1) _ _ _ _ (sym (g .could-be-granted .ensures (o .0) (o .1) (o .2)) ∙ c .if1 .taken))))
 
 returns : tie.Need-returns
 unfolding asks
-returns c n ts =
+returns c n ts h =
     let p = c .before .before in
-    rw (c .by-locks .ensures, c .before .move-all .ensures, ← p .before .could-be-granted .ensures n ts, p .if1 .taken)
+    rw (c .by-locks .ensures, c .before .move-all .ensures, ← p .before .could-be-granted .ensures n ts h, p .if1 .taken)
 
 returns-2 : tie.Need-returns-2
 unfolding asks
-returns-2 c n ts =
+returns-2 c n ts h =
     let p = c .before .before in
     let g = p .before in
-    rw (c .by-locks2 .ensures, ← g .could-be-granted .ensures n ts, p .if1 .left, not-true (g .before .before .args .waits) (c .before .if2 .taken))
+    rw (c .by-locks2 .ensures, ← g .could-be-granted .ensures n ts h, p .if1 .left, not-true (g .before .before .args .waits) (c .before .if2 .taken))
 
 returns-3 : tie.Need-returns-3
 unfolding asks
-returns-3 c n ts =
+returns-3 c n ts h =
     let p = c .before .before .before in
     let g = p .before in
-    rw (c .by-locks3 .ensures, c .before .waiting-for .ensures, ← g .could-be-granted .ensures n ts, p .if1 .left, not-false (g .before .before .args .waits) (c .before .before .if2 .left))
+    rw (c .by-locks3 .ensures, c .before .waiting-for .ensures, ← g .could-be-granted .ensures n ts h, p .if1 .left, not-false (g .before .before .args .waits) (c .before .before .if2 .left))
 
 pub asked-spec : {M : Type 1} → statement M
 asked-spec =

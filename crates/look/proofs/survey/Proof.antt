@@ -12,22 +12,26 @@ use Rattle.schedule.specs.Coming.{nextOf}
 use Rattle.task.specs.Coming.{delayEnd}
 use Rattle.task.specs.declared.Task.{Task}
 use Rattle.machine.specs.State.{mostTasks, taskAt}
-use Rattle.machine.specs.Test.{mostPriority, isPriority, scheduleOk, continuationOk, allBelow, countsOk, valid}
+use Rattle.machine.specs.Sums.{allBelow}
+use Rattle.machine.specs.Test.{mostPriority, isPriority, scheduleOk, continuationOk, countsOk, valid}
 use Rattle.machine.specs.declared.State.{State}
 use Rattle.survey.specs.Looks.{atEase, unfit, surveyed}
 use Rattle.survey.specs.Next.{momentOf}
-use Rattle.survey.proofs.Owned.{Owned, given-small}
+use Rattle.granting.specs.Writers.{Known, TellsFor}
+use Rattle.granting.proofs.Owned.{Owned, given-small}
 use Rattle.survey.proofs.TaskFit.{plan-none, continuation-none, no-start, Starts, start-none, start-kept, eased, odd-priority, odd-schedule, odd-continuation, odd-kept, odd-busy, fit-eased, fit-busy}
 use Rattle.survey.proofs.TestLaws.{fitAt, upto-fails, upto-all, out-of-range, counted, tasks-fit, all-fit}
+use Rattle.granting.proofs.WriterLaws.{known-none, known-told, known-kept, tells-told, tells-known}
 use Rattle.look.proofs.Surveying.{Looked, sooner-more, sooner-same, led-eased, led-busy, looked-none, looked-next, looked-event, looked-runs, unfit-is, fit-is}
 use Rattle.look.proofs.survey.Statement.{statement}
 use Rattle.look.proofs.survey.Tie as tie
 
 abbrev Inv-loop : tie.InvT-loop
-Inv-loop k counts now n locks soonest₀ lead₀ i₀ soonest lead i = Looked day k i soonest lead
+Inv-loop k counts now n locks writers₀ soonest₀ lead₀ i₀ writers soonest lead i =
+    Looked day k i soonest lead × Known (k .counts .tasks) (k .tasks) writers
 
 abbrev μ-loop : tie.MeasureT-loop
-μ-loop k counts now n locks soonest₀ lead₀ i₀ soonest lead i = n - i
+μ-loop k counts now n locks writers₀ soonest₀ lead₀ i₀ writers soonest lead i = n - i
 
 -- ---- what is known on the way
 
@@ -53,7 +57,7 @@ abbrev I : Type 0
 I = tie.In-loop Inv-loop μ-loop
 
 abbrev passed : I → P
-passed c = c .before .before .before .before .before
+passed c = c .before .before .before .before .before .before
 
 abbrev one : I → Task
 one c = taskAt (state (passed c) .tasks) (c .before .loop .i)
@@ -66,7 +70,7 @@ small c = given-small (state (passed c)) (good (passed c)) (c .before .loop .i)
 
 -- A task that isn't fit ends the look.
 ends : (c : I) → fitAt day (state (passed c)) (c .before .loop .i) ≡ false → unfit ≡ surveyed day (state (passed c))
-ends c e = unfit-is day (state (passed c)) (upto-fails (c .before .loop .inv .tasks) (c .loop-test .taken) e ∙ all (passed c))
+ends c e = unfit-is day (state (passed c)) (upto-fails (c .before .loop .inv .0 .tasks) (c .loop-test .taken) e ∙ all (passed c))
 
 abbrev here : tie.After-are-priorities Inv-loop μ-loop → I
 here c = c .before
@@ -138,13 +142,39 @@ start c =
 abbrev B : Type 0
 B = tie.After-sooner-end Inv-loop μ-loop
 
+-- Where the writers are known, if they are needed.
+abbrev W : Type 0
+W = tie.Joined10 Inv-loop μ-loop
+
+abbrev looked : B → W
+looked c = c .before .before .before .before
+
 abbrev busy : B → U
-busy c = c .before .before .before .before .before .before .before
+busy c = looked c .before .before .before .before .before
 
 uneased : (c : B) → let t = one (turn (busy c)) in atEase (t .wait) (t .hold) ≡ false
 uneased c =
-    let b = c .before .before .before .before in
+    let b = looked c .before .before in
     sym (b .before .is-at-ease .ensures) ∙ not-true _ (b .if9 .taken)
+
+abbrev doing : W → I
+doing c = turn (c .before .before .before .before .before)
+
+told : (c : W) → let k = state (passed (doing c)) in TellsFor (one (doing c) .wait) (k .counts .tasks) (k .tasks) (c .if10 .writers)
+told c =
+    let i = doing c in
+    let k = state (passed i) in
+    ⊎-elim (λ w. tells-told (one i .wait) (k .counts .tasks) (k .tasks) (w .2) (w .1 .ensures))
+    (λ w. tells-known (one i .wait) (k .counts .tasks) (k .tasks) (w .1) (i .before .loop .inv .1) (c .before .is-missing .ensures) (w .0 .left))
+    (c .if10 .came)
+
+tabled : (c : W) → let k = state (passed (doing c)) in Known (k .counts .tasks) (k .tasks) (c .if10 .writers)
+tabled c =
+    let i = doing c in
+    let k = state (passed i) in
+    ⊎-elim (λ w. known-told (k .counts .tasks) (k .tasks) (w .2) (w .1 .ensures))
+    (λ w. known-kept (k .counts .tasks) (k .tasks) (w .1) (i .before .loop .inv .1))
+    (c .if10 .came)
 
 -- and one that is.
 abbrev E : Type 0
@@ -176,11 +206,14 @@ returns c =
 cast-n : tie.Need-cast-n Inv-loop μ-loop
 cast-n c = search needs
 
+no-writers-requires : tie.Need-no-writers-requires Inv-loop μ-loop
+no-writers-requires c κs = search needs
+
 no-lead-requires : tie.Need-no-lead-requires Inv-loop μ-loop
 no-lead-requires c κs = search needs
 
 loop-holds : tie.Need-loop-holds Inv-loop μ-loop
-loop-holds c = rw (c .no-lead .ensures) (looked-none day _)
+loop-holds c = (rw (c .no-lead .ensures) (looked-none day _), rw (c .before .no-writers .ensures) (known-none _ _))
 
 mul-current : tie.Need-mul-current Inv-loop μ-loop
 mul-current c = omega (arith, room c)
@@ -327,14 +360,20 @@ element-copy-out-against-if c = omega (arith, room (turn (c .before .before .bef
 against-if-requires : tie.Need-against-if-requires Inv-loop μ-loop
 against-if-requires c κs = room (turn (c .before .before .before))
 
+is-missing-requires : tie.Need-is-missing-requires Inv-loop μ-loop
+is-missing-requires c κs = search needs
+
+writers-of-requires : tie.Need-writers-of-requires Inv-loop μ-loop
+writers-of-requires c κs = few (passed (turn (c .before .before .before .before .before)))
+
 mul-t-8 : tie.Need-mul-t-8 Inv-loop μ-loop
-mul-t-8 c = omega (arith, room (turn (c .before .before .before)))
+mul-t-8 c = omega (arith, room (doing c))
 
 element-copy-out-t-8 : tie.Need-element-copy-out-t-8 Inv-loop μ-loop
-element-copy-out-t-8 c = omega (arith, room (turn (c .before .before .before)))
+element-copy-out-t-8 c = omega (arith, room (doing c))
 
 is-busy-ok-requires : tie.Need-is-busy-ok-requires Inv-loop μ-loop
-is-busy-ok-requires c κs = known (passed (turn (c .before .before .before .before)))
+is-busy-ok-requires c κs = known (passed (doing (c .before)))
 
 unfit-requires-6 : tie.Need-unfit-requires-6 Inv-loop μ-loop
 unfit-requires-6 c κs = search needs
@@ -342,13 +381,14 @@ unfit-requires-6 c κs = search needs
 returns-6 : tie.Need-returns-6 Inv-loop μ-loop
 returns-6 c =
     let b = c .before .before in
-    let e = b .before .before .before in
-    let i = turn (e .before .before) in
+    let w = b .before .before in
+    let e = w .before .before in
+    let i = doing w in
     let k = state (passed i) in
     c .unfit6 .ensures
     ∙ ends i (odd-busy day (k .counts) (k .tasks) (k .locks) (one i)
-    (sym (e .is-at-ease .ensures) ∙ not-true _ (b .before .before .if9 .taken))
-    (sym (b .is-busy-ok .ensures (k .tasks)) ∙ not-true _ (c .before .if10 .taken)))
+    (sym (e .before .is-at-ease .ensures) ∙ not-true _ (e .if9 .taken))
+    (sym (b .is-busy-ok .ensures (k .tasks) (told w)) ∙ not-true _ (c .before .if11 .taken)))
 
 sooner-end-requires : tie.Need-sooner-end-requires Inv-loop μ-loop
 sooner-end-requires c κs = search needs
@@ -369,11 +409,13 @@ loop-again c =
     let l = i .before .loop in
     let k = state (passed i) in
     let t = one i in
-    let tested = c .before .before in
-    looked-next day k (l .inv) (i .loop-test .taken) (c .sooner-end .result)
-    (fit-busy day (k .counts) (k .tasks) (k .locks) t (priorities (continued p)) (schedule p) (continuation (continued p)) (start u) (sym (tested .is-busy-ok .ensures (k .tasks)) ∙ not-false _ (c .before .if10 .left)))
-    (sooner-more (k .now) (delayEnd (t .hold)) (p .if5 .soonest) (starting p) {c = c .sooner-end .result} refl (c .sooner-end .ensures))
-    (led-busy (k .tasks) (l .i) (l .inv .leads) (uneased c))
+    let tested = c .before .before in (
+      looked-next day k (l .inv .0) (i .loop-test .taken) (c .sooner-end .result)
+          (fit-busy day (k .counts) (k .tasks) (k .locks) t (priorities (continued p)) (schedule p) (continuation (continued p)) (start u) (sym (tested .is-busy-ok .ensures (k .tasks) (told (looked c))) ∙ not-false _ (c .before .if11 .left)))
+          (sooner-more (k .now) (delayEnd (t .hold)) (p .if5 .soonest) (starting p) {c = c .sooner-end .result} refl (c .sooner-end .ensures))
+          (led-busy (k .tasks) (l .i) (l .inv .0 .leads) (uneased c)),
+      tabled (looked c),
+    )
 
 add-i-2 : tie.Need-add-i-2 Inv-loop μ-loop
 add-i-2 c = omega (arith, room (turn (calm c)))
@@ -390,11 +432,13 @@ loop-again-2 c =
     let i = turn u in
     let l = i .before .loop in
     let k = state (passed i) in
-    let t = one i in
-    looked-next day k (l .inv) (i .loop-test .taken) (p .if5 .soonest)
-    (fit-eased day (k .counts) (k .tasks) (k .locks) t (priorities (continued p)) (schedule p) (continuation (continued p)) (start u) (at-ease c))
-    (sooner-same (k .now) (delayEnd (t .hold)) (p .if5 .soonest) (starting p) refl (eased (t .wait) (t .hold) (at-ease c) .ends))
-    (led-eased (k .tasks) (l .i) (l .inv .leads) (at-ease c) (c .against-if .ensures))
+    let t = one i in (
+      looked-next day k (l .inv .0) (i .loop-test .taken) (p .if5 .soonest)
+          (fit-eased day (k .counts) (k .tasks) (k .locks) t (priorities (continued p)) (schedule p) (continuation (continued p)) (start u) (at-ease c))
+          (sooner-same (k .now) (delayEnd (t .hold)) (p .if5 .soonest) (starting p) refl (eased (t .wait) (t .hold) (at-ease c) .ends))
+          (led-eased (k .tasks) (l .i) (l .inv .0 .leads) (at-ease c) (c .against-if .ensures)),
+      l .inv .1,
+    )
 
 moment-of-requires : tie.Need-moment-of-requires Inv-loop μ-loop
 moment-of-requires c κs = search needs
@@ -406,11 +450,11 @@ returns-7 : tie.Need-returns-7 Inv-loop μ-loop
 returns-7 c =
     let e = c .before .before in
     let l = e .before in
-    let p = l .before .before .before .before in
+    let p = l .before .before .before .before .before in
     let k = state p in
-    fit-is day k (upto-all (l .loop .inv .tasks) (e .loop-test .left) ∙ all p)
-    (c .before .moment-of .ensures ∙ looked-event day k (l .loop .inv) (e .loop-test .left))
-    (c .who .ensures ∙ looked-runs day k (l .loop .inv) (e .loop-test .left))
+    fit-is day k (upto-all (l .loop .inv .0 .tasks) (e .loop-test .left) ∙ all p)
+    (c .before .moment-of .ensures ∙ looked-event day k (l .loop .inv .0) (e .loop-test .left))
+    (c .who .ensures ∙ looked-runs day k (l .loop .inv .0) (e .loop-test .left))
 
 pub survey-spec : {M : Type 1} → statement M
 survey-spec =
@@ -423,6 +467,7 @@ survey-spec =
     unfit-requires
     returns
     cast-n
+    no-writers-requires
     no-lead-requires
     loop-holds
     mul-current
@@ -463,6 +508,8 @@ survey-spec =
     mul-t-7
     element-copy-out-t-7
     is-at-ease-requires
+    is-missing-requires
+    writers-of-requires
     mul-t-8
     element-copy-out-t-8
     is-busy-ok-requires

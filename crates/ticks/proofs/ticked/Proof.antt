@@ -2,7 +2,7 @@
 use borrow.Author.Needs.{needs}
 use mathlib.Core.Path.{_≡_, sym, _∙_, ap}
 use mathlib.Core.Logic.{⊎-elim}
-use mathlib.Core.Bool.{true}
+use mathlib.Core.Bool.{true, false}
 use Prim.Native.Nat.{_+_, _≤_, _<_, _-_}
 use native.Mathlib.Nat.{le-antisymm}
 use native.Mathlib.Omega.{arith}
@@ -11,11 +11,12 @@ use Rattle.calendar.specs.Limits.{day, lastInstant}
 use Rattle.calendar.specs.declared.Instant.{Instant}
 use Rattle.layout.specs.declared.Mark.the-variants.{TI}
 use Rattle.layout.specs.declared.Call.{Call}
+use Rattle.lock.proofs.Bools.{neither}
 use Rattle.task.specs.Turns.{tickTurn}
 use Rattle.task.proofs.Laws.{still}
-use Rattle.task.proofs.Waits.{no-wait-tick}
-use Rattle.machine.specs.State.{mostTasks, taskAt, withState}
+use Rattle.machine.specs.State.{mostTasks, taskAt, withState, begunAt}
 use Rattle.machine.specs.Running.{runningOf}
+use Rattle.machine.specs.Serving.{nextServed}
 use Rattle.machine.specs.Work.{everyTurn}
 use Rattle.machine.specs.Test.{valid}
 use Rattle.machine.specs.Refusals.{stateRefusal}
@@ -23,20 +24,23 @@ use Rattle.machine.specs.Calls.{tick}
 use Rattle.machine.specs.Step.{finish, refuse, orRefuse}
 use Rattle.machine.specs.declared.State.{State}
 use Rattle.machine.specs.declared.Running.{Running}
+use Rattle.machine.specs.declared.Running.the-variants.{Idle}
+use Rattle.serving.specs.Ends.{served, answerOf}
 use Rattle.machine.proofs.Passed.{tested}
-use Rattle.survey.proofs.Owned.{Owned, tasks-long}
-use Rattle.ticks.proofs.EveryTask.{Made, made-none, made-all, made-more, made-still, every-idle, every-unserved, tick-early, tick-late}
+use Rattle.machine.proofs.Turns.{good-tick}
+use Rattle.granting.proofs.Owned.{Owned, tasks-long}
+use Rattle.ticks.proofs.EveryTask.{Made, made-none, made-all, made-more, made-still, task-now, Steady, steady-more, steady-still, tick-keeps, everyDone, every-waits, every-idle, every-unserved, every-served, tick-early, tick-late}
 use Rattle.ticks.proofs.StirLaws.{nothing-comes}
 use Rattle.ticks.proofs.TickRuns.{Leading, leading-none, leading-from, leading-more, leading-still, runs-below}
 use Rattle.ticks.proofs.ticked.Statement.{statement}
 use Rattle.ticks.proofs.ticked.Tie as tie
 
 abbrev Inv-loop : tie.InvT-loop
-Inv-loop k₀ n most m₀ lead₀ i₀ k m lead i =
-    (i ≤ most) × Made (tickTurn n) k₀ i k m × Leading (k .tasks) (k₀ .counts .tasks) lead
+Inv-loop k₀ n most s₀ altered₀ lead₀ i₀ k s altered lead i =
+    (i ≤ most) × Made (tickTurn n) k₀ i k s × Leading (k .tasks) (k₀ .counts .tasks) lead × (altered ≡ false → Steady (tickTurn n) (k₀ .tasks) i)
 
 abbrev μ-loop : tie.MeasureT-loop
-μ-loop k₀ n most m₀ lead₀ i₀ k m lead i = most - i
+μ-loop k₀ n most s₀ altered₀ lead₀ i₀ k s altered lead i = most - i
 
 -- ---- what is known on the way
 
@@ -105,7 +109,7 @@ made c =
     let i = l .before .loop .i in
     let t = taskAt (l .before .loop .k .tasks) i in
     ⊎-elim
-    (λ w. made-more f k i (less l) (l .before .loop .inv .1) (w .2 .result) (w .2 .ensures) (w .7) (w .8 ∙ w .4 .ensures))
+    (λ w. made-more f k i (less l) (l .before .loop .inv .1) (w .2 .result) (w .2 .ensures) (w .8) (w .9 ∙ w .4 .ensures))
     (λ w. made-still f k i (less l) (l .before .loop .inv .1) (still n t (nothing-comes n t (sym (c .before .may-come .ensures) ∙ w .0 .left))) (w .1) (w .2))
     (c .if2 .came)
 
@@ -118,8 +122,25 @@ led c =
     ⊎-elim
     (λ w.
     leading-more (moment p) (k .tasks) (state p .counts .tasks) (l .before .loop .i) (l .loop-test .taken) (fits p) (w .2 .result) (w .2 .ensures)
-    h (ap (λ (q : State). q .tasks) (w .7)) (w .5 .ensures) (w .6 .ensures) (w .9))
-    (λ w. leading-still h (ap (λ (q : State). q .tasks) (w .1)) (w .3))
+    h (ap (λ (q : State). q .tasks) (w .8)) (w .6 .ensures) (w .7 .ensures) (w .11))
+    (λ w. leading-still h (ap (λ (q : State). q .tasks) (w .1)) (w .4))
+    (c .if2 .came)
+
+steady : (c : J) → let l = here c in
+    c .if2 .altered ≡ false → Steady (tickTurn (moment (passed l))) (state (passed l) .tasks) (l .before .loop .i + 1)
+steady c e =
+    let l = here c in
+    let k = state (passed l) in
+    let n = moment (passed l) in
+    let f = tickTurn n in
+    let o = l .before .loop in
+    let t = taskAt (o .k .tasks) (o .i) in
+    let same = task-now f k (o .i) (less l) (o .inv .1) in
+    ⊎-elim
+    (λ w.
+    let x = neither (o .altered) (w .5 .result) (sym (w .10) ∙ e) in
+    steady-more f (k .tasks) (o .i) (o .inv .3 (x .0)) t (w .2 .result) same (w .2 .ensures) (w .5 .ensures) (x .1))
+    (λ w. steady-still f (k .tasks) (o .i) (o .inv .3 (sym (w .3) ∙ e)) (rw (← same) (still n t (nothing-comes n t (sym (c .before .may-come .ensures) ∙ w .0 .left)))))
     (c .if2 .came)
 
 -- Once all have.
@@ -191,6 +212,7 @@ loop-holds c =
           (λ w. leading-from (k .tasks) (k .counts .tasks) (w .1 .given .0 .0) (tasks-long k (good p)) (runner-is p (w .1 .given .1)) (o .no-lead .ensures) (rw (w .4) (w .3 .ensures)))
           (λ w. leading-none (k .tasks) (k .counts .tasks) (tasks-long k (good p)) (runner-is p (w .1 .given .1)) (w .2 ∙ o .no-lead .ensures))
           (c .match .came),
+      λ e j l. absurd (omega arith),
     )
 
 mul-t : tie.Need-mul-t Inv-loop μ-loop
@@ -220,11 +242,14 @@ element-set-from-after c = omega (arith, inside (c .before .before .before .befo
 put-marks-requires : tie.Need-put-marks-requires Inv-loop μ-loop
 put-marks-requires c κs = omega (arith, inside (c .before .before .before .before .before .before .before .before .before))
 
+is-altered-requires : tie.Need-is-altered-requires Inv-loop μ-loop
+is-altered-requires c κs = search needs
+
 is-runnable-requires : tie.Need-is-runnable-requires Inv-loop μ-loop
 is-runnable-requires c κs = search needs
 
 against-if-requires-2 : tie.Need-against-if-requires-2 Inv-loop μ-loop
-against-if-requires-2 c κs = omega (arith, inside (c .before .before .before .before .before .before .before .before .before .before .before))
+against-if-requires-2 c κs = omega (arith, inside (c .before .before .before .before .before .before .before .before .before .before .before .before))
 
 add-i : tie.Need-add-i Inv-loop μ-loop
 add-i c = omega (arith, inside (here c))
@@ -233,10 +258,54 @@ loop-less : tie.Need-loop-less Inv-loop μ-loop
 loop-less c = search needs
 
 loop-again : tie.Need-loop-again Inv-loop μ-loop
-loop-again c = (search needs, made c, led c)
+loop-again c = (search needs, made c, led c, steady c)
 
 who-requires : tie.Need-who-requires Inv-loop μ-loop
 who-requires c κs = search needs
+
+-- The waits are in order once all have had their turns.
+finished-requires : tie.Need-finished-requires Inv-loop μ-loop
+finished-requires c κs =
+    let a = c .before .before in
+    let p = a .before .before .before .before .before .before .before in
+    let k = state p in
+    let n = moment p in
+    every-waits day k (passes p) (tasks-long k (good p)) n (tickTurn n) (λ t h. good-tick day (k .counts) n t (in-time p) h .ok) (all a .0)
+
+-- Where the waiting tasks have been served, if that is needed.
+abbrev E : Type 0
+E = tie.Joined3 Inv-loop μ-loop
+
+abbrev over : E → tie.After-loop Inv-loop μ-loop
+over c = c .before .before
+
+abbrev from : E → P
+from c = over c .before .before .before .before .before .before .before
+
+-- Nobody is to be served, where no priority of one who waits is altered.
+idle : (c : E) → over c .before .loop .altered ≡ false → let k = state (from c) in let n = moment (from c) in
+    nextServed (k .counts .tasks) (served (everyDone k n (tickTurn n)) 0) ≡ Idle
+idle c e =
+    let p = from c in
+    let k = state p in
+    let n = moment p in
+    let l = over c .before .loop in
+    every-idle day k (passes p) (tasks-long k (good p)) n (tickTurn n) (λ t h. tick-keeps day (k .counts) n t h)
+    (λ j b. l .inv .3 e j (omega (arith, b, over c .loop-test .left)))
+
+ends : (c : E) → let k = state (from c) in let n = moment (from c) in
+    record { state = begunAt n (c .if3 .k); answer = answerOf 0 (c .if3 .runner) (c .if3 .s) } ≡ finish k (everyTurn k n (tickTurn n))
+ends c =
+    let k = state (from c) in
+    let n = moment (from c) in
+    let f = tickTurn n in
+    let l = over c .before .loop in
+    let w = all (over c) in
+    ⊎-elim
+    (λ z. every-served k n f (w .0) (w .1) (z .1 .ensures) (z .5) (z .6) (z .7))
+    (λ z. every-unserved k n f (z .1 ∙ w .0) (z .2 ∙ w .1) (idle c (z .0 .left))
+    (z .3 ∙ c .before .who .ensures ∙ l .inv .2 .leads .who ∙ ap (λ (q : State). runningOf (k .counts .tasks) (q .tasks)) (w .0)))
+    (c .if3 .came)
 
 begun-at-requires : tie.Need-begun-at-requires Inv-loop μ-loop
 begun-at-requires c κs = search needs
@@ -245,16 +314,7 @@ answer-of-requires : tie.Need-answer-of-requires Inv-loop μ-loop
 answer-of-requires c κs = search needs
 
 returns-2 : tie.Need-returns-2 Inv-loop μ-loop
-returns-2 c =
-    let o = c .before .before in
-    let a = o .before in
-    let p = a .before .before .before .before .before .before .before in
-    let k = state p in
-    let n = moment p in
-    let w = all a in
-    let r = o .who .ensures ∙ a .before .loop .inv .2 .leads .who ∙ ap (λ (q : State). runningOf (k .counts .tasks) (q .tasks)) (w .0) in
-    let idle = every-idle day k (passes p) (tasks-long k (good p)) n (tickTurn n) (λ t. no-wait-tick t n) in
-    λ d. rw (c .answer-of .ensures, c .before .begun-at .ensures) (every-unserved k n (tickTurn n) (w .0) (w .1) idle r) ∙ accepted p d
+returns-2 c = let e = c .before .before in λ d. rw (c .answer-of .ensures, c .before .begun-at .ensures) (ends e) ∙ accepted (from e) d
 
 pub ticked-spec : {M : Type 1} → statement M
 ticked-spec =
@@ -284,12 +344,14 @@ ticked-spec =
     mul-after
     element-set-from-after
     put-marks-requires
+    is-altered-requires
     is-runnable-requires
     against-if-requires-2
     add-i
     loop-less
     loop-again
     who-requires
+    finished-requires
     begun-at-requires
     answer-of-requires
     returns-2)

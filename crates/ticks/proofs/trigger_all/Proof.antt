@@ -9,7 +9,7 @@ use lib.ListN.{length}
 use Rattle.calendar.specs.Limits.{day}
 use Rattle.task.specs.Turns.{triggerTurn}
 use Rattle.task.proofs.Laws.{deaf}
-use Rattle.survey.proofs.Owned.{tasks-long}
+use Rattle.granting.proofs.Owned.{tasks-long}
 use Rattle.ticks.proofs.EveryTask.{Made, made-none, made-all, made-more, made-still}
 use Rattle.ticks.proofs.trigger_all.Statement.{statement}
 use Rattle.ticks.proofs.trigger_all.Tie as tie

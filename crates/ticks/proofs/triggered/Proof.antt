@@ -7,7 +7,7 @@ use Rattle.machine.specs.Invariants.{IsDay}
 use Rattle.machine.specs.Step.{finish}
 use Rattle.machine.proofs.Passed.{tested}
 use Rattle.machine.proofs.Turns.{good-trigger}
-use Rattle.survey.proofs.Owned.{tasks-long}
+use Rattle.granting.proofs.Owned.{tasks-long}
 use Rattle.serving.proofs.TurnCases.{sound}
 use Rattle.ticks.proofs.EveryTask.{every-finish, every-waits, trigger-on, trigger-off}
 use Rattle.ticks.proofs.triggered.Statement.{statement}

@@ -3,7 +3,7 @@ use mathlib.Core.Path.{ap, _∙_}
 use Rattle.calendar.specs.Limits.{day}
 use Rattle.machine.specs.Step.{refuse}
 use Rattle.machine.specs.declared.State.{State}
-use Rattle.survey.proofs.Owned.{tasks-long}
+use Rattle.granting.proofs.Owned.{tasks-long}
 use Rattle.calls.proofs.StirLaws.{quiet-tick}
 use borrow.Author.Needs.{needs}
 use Rattle.calls.proofs.quiet.quiet_tick.Statement.{statement}

@@ -2,14 +2,18 @@
 use borrow.Author.Needs.{needs}
 use mathlib.Core.Path.{_≡_, sym, ap, _∙_}
 use mathlib.Core.Bool.{true}
+use mathlib.Core.Logic.{⊎-elim}
 use Prim.Native.Nat.{_<_}
 use native.Mathlib.Omega.{arith}
 use Rattle.calendar.specs.Limits.{day}
 use Rattle.record.specs.Reading.{callWith}
 use Rattle.machine.specs.State.{mostTasks}
 use Rattle.machine.specs.Running.{runner}
-use Rattle.machine.specs.Sorts.{sortOf, placeOf}
+use Rattle.machine.specs.Sorts.{sortOf, askedKind, placeOf}
 use Rattle.machine.specs.Refusals.{formalRefusal, stateRefusal}
+use Rattle.machine.proofs.Passed.{tested}
+use Rattle.granting.specs.Writers.{TellsFor}
+use Rattle.granting.proofs.WriterLaws.{known-none, tells-told, tells-known}
 use Rattle.refusals.specs.Inner.{aboutOne}
 use Rattle.serving.proofs.TurnCases.{sound}
 use Rattle.changes.proofs.CallLaws.{in-order, place-in, ground, settled-refused}
@@ -43,6 +47,24 @@ passed c =
     let a = s .args in
     sym (ground day (a .t1) (a .h) (a .list) (s .pre .1 .0) (sorted s) (s .pre .1 .1 .1 .1 .1) (c .before .state-refusal .ensures)) ∙ c .if1 .left
 
+-- Where the writers are known, if the call asks for a list that depends on them.
+abbrev J : Type 0
+J = tie.Joined2
+
+abbrev unrefused : J → tie.Else1
+unrefused c = c .before .before .before .before
+
+told : (c : J) → let a = start (unrefused c) .args in TellsFor (askedKind (a .sort)) (a .t1 .counts .tasks) (a .t1 .tasks) (c .if2 .writers)
+told c =
+    let k = start (unrefused c) .args .t1 in
+    let n = k .counts .tasks in
+    let o = c .before .before in
+    let v = o .asked-kind .result in
+    rw (← o .asked-kind .ensures)
+    (⊎-elim (λ w. tells-told v n (k .tasks) (w .2) (w .1 .ensures))
+    (λ w. tells-known v n (k .tasks) (w .1 ∙ o .before .no-writers .ensures) (known-none n (k .tasks)) (rw (o .before .no-writers .ensures) at (c .before .is-missing .ensures)) (w .0 .left))
+    (c .if2 .came))
+
 mul-t : tie.Need-mul-t
 mul-t c = omega (arith, placed c)
 
@@ -64,35 +86,50 @@ returns c =
     ∙ settled-refused day (a .t1) (a .h) (a .list) (s .pre .1 .0)
     (ground day (a .t1) (a .h) (a .list) (s .pre .1 .0) (sorted s) (s .pre .1 .1 .1 .1 .1) (n .state-refusal .ensures)) (c .before .if1 .taken)
 
+writers-of-requires : tie.Need-writers-of-requires
+writers-of-requires c κs = let s = start (c .before .before .before .before) in tested day (s .args .t1) (s .pre .0) .fits .tasks
+
 change-of-requires : tie.Need-change-of-requires
 change-of-requires c κs =
-    let s = start c in
-    let a = s .args in
-    (sound day (a .t1) (s .pre .0) .now, (in-order day (a .t1) (a .h) (a .list) (formed s) (s .pre .0), (sorted s, returnable day (a .t1) (a .h) (a .list) (s .pre .0) (formed s) (passed c) (sorted s))))
+    let s = start (unrefused c) in
+    let a = s .args in (
+      sound day (a .t1) (s .pre .0) .now,
+      (
+        in-order day (a .t1) (a .h) (a .list) (formed s) (s .pre .0),
+        (
+          sorted s,
+          (returnable day (a .t1) (a .h) (a .list) (s .pre .0) (formed s) (passed (unrefused c)) (sorted s), (a .t1 .counts .tasks, a .t1 .tasks, told c)),
+        ),
+      ),
+    )
+
+-- Where the change is made.
+abbrev before-change : tie.After-change-of → tie.Else1
+before-change c = unrefused (c .before)
 
 mul-task : tie.Need-mul-task
-mul-task c = omega (arith, placed (start (c .before .before .before)))
+mul-task c = omega (arith, placed (start (before-change (c .before .before))))
 
 element-set-from-task : tie.Need-element-set-from-task
-element-set-from-task c = placed (start (c .before .before .before))
+element-set-from-task c = placed (start (before-change (c .before .before)))
 
 put-marks-requires : tie.Need-put-marks-requires
-put-marks-requires c κs = placed (start (c .before .before .before .before))
+put-marks-requires c κs = placed (start (before-change (c .before .before .before)))
 
 finished-requires : tie.Need-finished-requires
 finished-requires c κs =
     let x = c .before .before .before .before in
-    let s = start (x .before) in
+    let s = start (before-change x) in
     let a = s .args in
-    change-waits day (a .t1) (a .h) (a .list) (s .pre .0) (formed s) (passed (x .before)) (sorted s) (about s) (here s) (x .change-of .ensures (a .t1 .counts .tasks) (a .t1 .tasks))
+    change-waits day (a .t1) (a .h) (a .list) (s .pre .0) (formed s) (passed (before-change x)) (sorted s) (about s) (here s) (x .change-of .ensures (a .t1 .counts .tasks) (a .t1 .tasks) (told (x .before)))
 
 returns-2 : tie.Need-returns-2
 returns-2 c =
     let x = c .before .before .before .before .before in
-    let s = start (x .before) in
+    let s = start (before-change x) in
     let a = s .args in
     c .finished .ensures
-    ∙ change-done day (a .t1) (a .h) (a .list) (s .pre .0) (formed s) (passed (x .before)) (sorted s) (about s) (here s) (x .change-of .ensures (a .t1 .counts .tasks) (a .t1 .tasks)) (c .before .before .no-sets .ensures) (c .before .put-marks .ensures)
+    ∙ change-done day (a .t1) (a .h) (a .list) (s .pre .0) (formed s) (passed (before-change x)) (sorted s) (about s) (here s) (x .change-of .ensures (a .t1 .counts .tasks) (a .t1 .tasks) (told (x .before))) (c .before .before .no-sets .ensures) (c .before .put-marks .ensures)
 
 pub done-to-spec : {M : Type 1} → statement M
 done-to-spec =
@@ -103,6 +140,10 @@ done-to-spec =
     state-refusal-requires
     (λ c κs. search needs)
     returns
+    (λ c κs. search needs)
+    (λ c κs. search needs)
+    (λ c κs. search needs)
+    writers-of-requires
     change-of-requires
     mul-task
     element-set-from-task

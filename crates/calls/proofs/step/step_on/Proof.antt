@@ -18,7 +18,7 @@ use Rattle.machine.specs.Sorts.{declaring, declares}
 use Rattle.machine.specs.Refusals.{formalRefusal, declaredBy}
 use Rattle.machine.specs.Step.{refuse, settle, step}
 use Rattle.machine.proofs.Quiet.{tick-step}
-use Rattle.survey.proofs.Owned.{tasks-long}
+use Rattle.granting.proofs.Owned.{tasks-long}
 use Rattle.refusals.specs.Inner.{aboutOne}
 use Rattle.refusals.proofs.Admitting.{admitted-formal}
 use Rattle.calls.proofs.StirLaws.{tick-bytes}

@@ -9,10 +9,10 @@ use Rattle.lock.proofs.Locks.can_move_all.Statement.{statement}
 use Rattle.lock.proofs.Locks.can_move_all.Tie as tie
 
 abbrev Inv-loop : tie.InvT-loop
-Inv-loop self way w n list i₀ i = Passed (canMove way w self) list n i
+Inv-loop way w n self list i₀ i = Passed (canMove way w self) list n i
 
 abbrev μ-loop : tie.MeasureT-loop
-μ-loop self way w n list i₀ i = n - i
+μ-loop way w n self list i₀ i = n - i
 
 loop-holds : tie.Need-loop-holds Inv-loop μ-loop
 loop-holds c = record { named = record { short = omega arith; below = c .pre .1 }; within = omega arith; rest = refl }
@@ -20,16 +20,25 @@ loop-holds c = record { named = record { short = omega arith; below = c .pre .1 
 cast-x : tie.Need-cast-x Inv-loop μ-loop
 cast-x c = omega (arith, number-below (c .before .loop .inv .named) (c .loop-test .taken))
 
-can-move-requires : tie.Need-can-move-requires Inv-loop μ-loop
-can-move-requires c κs = number-below (c .before .loop .inv .named) (c .loop-test .taken)
+mul-b : tie.Need-mul-b Inv-loop μ-loop
+mul-b c = omega (arith, number-below (c .before .loop .inv .named) (c .loop-test .taken))
+
+element-copy-out-b : tie.Need-element-copy-out-b Inv-loop μ-loop
+element-copy-out-b c = omega (arith, number-below (c .before .loop .inv .named) (c .loop-test .taken))
+
+mul-can-move : tie.Need-mul-can-move Inv-loop μ-loop
+mul-can-move c = omega (arith, number-below (c .before .before .loop .inv .named) (c .before .loop-test .taken))
+
+element-copy-out-can-move : tie.Need-element-copy-out-can-move Inv-loop μ-loop
+element-copy-out-can-move c = omega (arith, number-below (c .before .before .loop .inv .named) (c .before .loop-test .taken))
 
 returns : tie.Need-returns Inv-loop μ-loop
 returns c =
-    fails-here (c .before .before .before .loop .inv) (c .before .before .loop-test .taken) (c .before .can-move .ensures) (c .if1 .taken)
+    fails-here (c .before .before .before .before .before .loop .inv) (c .before .before .before .before .loop-test .taken) (c .before .can-move .ensures _ _ refl refl) (c .if1 .taken)
 
 loop-again : tie.Need-loop-again Inv-loop μ-loop
 loop-again c =
-    passes-here (c .before .before .before .loop .inv) (c .before .before .loop-test .taken) (c .before .can-move .ensures) (c .if1 .left)
+    passes-here (c .before .before .before .before .before .loop .inv) (c .before .before .before .before .loop-test .taken) (c .before .can-move .ensures _ _ refl refl) (c .if1 .left)
 
 returns-2 : tie.Need-returns-2 Inv-loop μ-loop
 returns-2 c = all-pass (c .before .loop .inv) (c .loop-test .left)
@@ -43,7 +52,11 @@ can-move-all-spec =
     loop-holds
     (λ c. search needs)
     cast-x
-    can-move-requires
+    mul-b
+    element-copy-out-b
+    mul-can-move
+    element-copy-out-can-move
+    (λ c κs. search needs)
     returns
     (λ c. search needs)
     (λ c. search needs)

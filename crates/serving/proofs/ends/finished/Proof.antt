@@ -10,7 +10,7 @@ use Rattle.machine.specs.Serving.{nextServed}
 use Rattle.machine.specs.Step.{finish}
 use Rattle.machine.specs.declared.Running.the-variants.{Idle}
 use Rattle.serving.specs.Ends.{served, servedOf}
-use Rattle.survey.proofs.Owned.{Owned, tasks-long}
+use Rattle.granting.proofs.Owned.{Owned, tasks-long}
 use Rattle.survey.proofs.LeadLaws.{Led, canRun, led-none, led-more, led-runs}
 use Rattle.serving.proofs.WaitLaws.{tasks-fit}
 use Rattle.serving.proofs.ServeLaws.{NoneWaits, none-more, next-none, not-someone, served-idle}

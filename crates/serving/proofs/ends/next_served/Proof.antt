@@ -3,17 +3,21 @@ use borrow.Author.Needs.{needs}
 use borrow.Author.Tests.{not-true, not-false}
 use mathlib.Core.Path.{_≡_, refl, sym, _∙_}
 use mathlib.Core.Bool.{Bool, true, false}
+use mathlib.Core.Logic.{⊎-elim}
 use Prim.Native.Nat.{ℕ, _+_, _≤_, _<_, _-_}
 use native.Mathlib.Nat.{le-antisymm}
 use native.Mathlib.Omega.{arith}
-use Rattle.lock.specs.Locks.{waiting}
+use lib.ListN.{getD}
+use Rattle.lock.specs.Locks.{mostLocks, waiting}
 use Rattle.lock.proofs.Rests.{Named, Passed, number-below, fails-here, passes-here, all-pass}
 use Rattle.task.specs.declared.Task.{Task}
 use Rattle.machine.specs.State.{mostTasks, taskAt}
 use Rattle.machine.specs.Granting.{available, servable}
 use Rattle.machine.specs.declared.State.{State}
-use Rattle.survey.proofs.Owned.{Owned, list-long}
+use Rattle.granting.specs.Writers.{Known, TellsFor}
+use Rattle.granting.proofs.Owned.{Owned, list-long}
 use Rattle.survey.proofs.LeadLaws.{Led, led-none, led-more, led-passed, weighed, against-later}
+use Rattle.granting.proofs.WriterLaws.{known-none, known-told, known-kept, tells-told, tells-known, shows-here}
 use Rattle.serving.proofs.WaitLaws.{Listed, tasks-fit, listed, servable-idle, servable-each}
 use Rattle.serving.proofs.ends.next_served.Statement.{statement}
 use Rattle.serving.proofs.ends.next_served.Tie as tie
@@ -22,16 +26,16 @@ abbrev canServe : State → ℕ → Bool
 canServe k = servable (k .counts .tasks) (k .tasks) (k .locks)
 
 abbrev Inv-loop : tie.InvT-loop
-Inv-loop k n locks lead i₀ wait priority u m list by j₀ i j = (i ≡ i₀) × Passed (available n (k .tasks) locks (by .priority) wait) list m j
+Inv-loop k n locks writers lead i₀ wait priority u m list j₀ i j = (i ≡ i₀) × Passed (available n (k .tasks) locks priority wait) list m j
 
 abbrev μ-loop : tie.MeasureT-loop
-μ-loop k n locks lead i₀ wait priority u m list by j₀ i j = m - j
+μ-loop k n locks writers lead i₀ wait priority u m list j₀ i j = m - j
 
 abbrev Inv-tasks : tie.InvT-tasks
-Inv-tasks k n locks lead₀ i₀ lead i = (i ≤ n) × Led i (canServe k) (k .tasks) lead
+Inv-tasks k n locks writers₀ lead₀ i₀ writers lead i = (i ≤ n) × Led i (canServe k) (k .tasks) lead × Known n (k .tasks) writers
 
 abbrev μ-tasks : tie.MeasureT-tasks
-μ-tasks k n locks lead₀ i₀ lead i = n - i
+μ-tasks k n locks writers₀ lead₀ i₀ writers lead i = n - i
 
 -- ---- a task of the scan
 
@@ -39,7 +43,7 @@ abbrev T : Type 0
 T = tie.In-tasks Inv-loop μ-loop Inv-tasks μ-tasks
 
 abbrev kOf : T → State
-kOf c = c .before .before .before .before .before .before .args .t1
+kOf c = c .before .before .before .before .before .before .before .args .t1
 
 abbrev iOf : T → ℕ
 iOf c = c .before .tasks .i
@@ -51,15 +55,15 @@ good : (s : tie.Start Inv-loop μ-loop Inv-tasks μ-tasks) → Owned (s .args .t
 good s = (s .good .0 .0, s .good .0 .1 .1)
 
 placed : (c : T) → iOf c < mostTasks
-placed c = omega (arith, c .tasks-test .taken, tasks-fit (kOf c) (c .before .before .before .before .before .before .pre))
+placed c = omega (arith, c .tasks-test .taken, tasks-fit (kOf c) (c .before .before .before .before .before .before .before .pre))
 
 list : (c : T) → waiting (tOf c .wait) ≡ true → Listed (tOf c)
-list c = listed (kOf c) (c .before .before .before .before .before .before .pre) (iOf c) (c .tasks-test .taken)
+list c = listed (kOf c) (c .before .before .before .before .before .before .before .pre) (iOf c) (c .tasks-test .taken)
 
 named : (c : T) → waiting (tOf c .wait) ≡ true → Named (tOf c .list) (tOf c .len)
 named c w =
     record {
-      short = omega (arith, list c w .short, list-long (kOf c) (good (c .before .before .before .before .before .before)) (iOf c) w);
+      short = omega (arith, list c w .short, list-long (kOf c) (good (c .before .before .before .before .before .before .before)) (iOf c) w);
       below = list c w .below;
     }
 
@@ -86,11 +90,14 @@ short c = list (inP c) (waits c) .short
 cast-n : tie.Need-cast-n Inv-loop μ-loop Inv-tasks μ-tasks
 cast-n c = search needs
 
+no-writers-requires : tie.Need-no-writers-requires Inv-loop μ-loop Inv-tasks μ-tasks
+no-writers-requires c κs = search needs
+
 no-lead-requires : tie.Need-no-lead-requires Inv-loop μ-loop Inv-tasks μ-tasks
 no-lead-requires c κs = search needs
 
 tasks-holds : tie.Need-tasks-holds Inv-loop μ-loop Inv-tasks μ-tasks
-tasks-holds c = (search needs, led-none _ _ (c .no-lead .ensures))
+tasks-holds c = (search needs, led-none _ _ (c .no-lead .ensures), rw (c .before .no-writers .ensures) (known-none _ _))
 
 mul-t : tie.Need-mul-t Inv-loop μ-loop Inv-tasks μ-tasks
 mul-t c = omega (arith, placed c)
@@ -111,7 +118,7 @@ tasks-again : tie.Need-tasks-again Inv-loop μ-loop Inv-tasks μ-tasks
 tasks-again c =
     let d = c .before .before .before in
     let e = sym (c .before .is-waiting .ensures) ∙ not-true (c .before .is-waiting .result) (c .if1 .taken) in
-    (search needs, passed d (servable-idle _ (kOf d .tasks) (kOf d .locks) (iOf d) e))
+    (search needs, passed d (servable-idle _ (kOf d .tasks) (kOf d .locks) (iOf d) e), d .before .tasks .inv .2)
 
 mul-priority : tie.Need-mul-priority Inv-loop μ-loop Inv-tasks μ-tasks
 mul-priority c = omega (arith, placed (c .before .before .before))
@@ -133,7 +140,7 @@ tasks-again-2 c =
     let u = c .before .before .urgency-of in
     let d = c .before .before .before .before .before .before in
     let l = d .before .tasks in
-    (search needs, led-more (canServe (kOf d)) (kOf d .tasks) (iOf d) refl (l .inv .1) (weighed (placed d) (u .ensures) (sym (against-later (l .lead) _ (u .result) (iOf d) (c .if2 .taken)))))
+    (search needs, led-more (canServe (kOf d)) (kOf d .tasks) (iOf d) refl (l .inv .1) (weighed (placed d) (u .ensures) (sym (against-later (l .lead) _ (u .result) (iOf d) (c .if2 .taken)))), l .inv .2)
 
 mul-m : tie.Need-mul-m Inv-loop μ-loop Inv-tasks μ-tasks
 mul-m c = omega (arith, placed (inP c))
@@ -150,14 +157,41 @@ mul-t-2 c = omega (arith, placed (inP c))
 element-copy-out-t-2 : tie.Need-element-copy-out-t-2 Inv-loop μ-loop Inv-tasks μ-tasks
 element-copy-out-t-2 c = placed (inP c)
 
+is-missing-requires : tie.Need-is-missing-requires Inv-loop μ-loop Inv-tasks μ-tasks
+is-missing-requires c κs = search needs
+
+writers-of-requires : tie.Need-writers-of-requires Inv-loop μ-loop Inv-tasks μ-tasks
+writers-of-requires c κs = let d = inP (c .before .before .before .before) in tasks-fit (kOf d) (d .before .before .before .before .before .before .before .pre)
+
+-- Where the writers are known, if they are needed.
+abbrev J : Type 0
+J = tie.Joined3 Inv-loop μ-loop Inv-tasks μ-tasks
+
+abbrev inJ : J → P
+inJ c = c .before .before .before .before
+
+known : (c : J) → let k = kOf (inP (inJ c)) in Known (k .counts .tasks) (k .tasks) (c .if3 .writers)
+known c =
+    let d = inP (inJ c) in
+    ⊎-elim (λ w. known-told (kOf d .counts .tasks) (kOf d .tasks) (w .2) (w .1 .ensures))
+    (λ w. known-kept (kOf d .counts .tasks) (kOf d .tasks) (w .1) (d .before .tasks .inv .2))
+    (c .if3 .came)
+
+told : (c : J) → let d = inP (inJ c) in TellsFor (tOf d .wait) (kOf d .counts .tasks) (kOf d .tasks) (c .if3 .writers)
+told c =
+    let d = inP (inJ c) in
+    ⊎-elim (λ w. tells-told (tOf d .wait) (kOf d .counts .tasks) (kOf d .tasks) (w .2) (w .1 .ensures))
+    (λ w. tells-known (tOf d .wait) (kOf d .counts .tasks) (kOf d .tasks) (w .1) (d .before .tasks .inv .2) (c .before .is-missing .ensures) (w .0 .left))
+    (c .if3 .came)
+
 loop-holds : tie.Need-loop-holds Inv-loop μ-loop Inv-tasks μ-tasks
 loop-holds c =
-    let p = c .before .before in
+    let p = inJ c in
     (refl, record { named = named (inP p) (waits p); within = omega arith; rest = refl })
 
 -- Where the list is looked through.
 abbrev atP : tie.At-loop Inv-loop μ-loop Inv-tasks μ-tasks → P
-atP c = c .before .before .before
+atP c = inJ (c .before)
 
 array-read-x : tie.Need-array-read-x Inv-loop μ-loop Inv-tasks μ-tasks
 array-read-x c = omega (arith, short (atP (c .before)), c .loop-test .taken)
@@ -165,37 +199,77 @@ array-read-x c = omega (arith, short (atP (c .before)), c .loop-test .taken)
 cast-x : tie.Need-cast-x Inv-loop μ-loop Inv-tasks μ-tasks
 cast-x c = omega (arith, number-below (c .before .loop .inv .1 .named) (c .loop-test .taken))
 
+-- Where a number of it is looked at.
+abbrev N : Type 0
+N = tie.In-loop Inv-loop μ-loop Inv-tasks μ-tasks
+
+bolt : (c : N) → getD (tOf (inP (atP (c .before))) .list) (c .before .loop .j) 0 < mostLocks
+bolt c = number-below (c .before .loop .inv .1 .named) (c .loop-test .taken)
+
+mul-b : tie.Need-mul-b Inv-loop μ-loop Inv-tasks μ-tasks
+mul-b c = omega (arith, bolt c)
+
+element-copy-out-b : tie.Need-element-copy-out-b Inv-loop μ-loop Inv-tasks μ-tasks
+element-copy-out-b c = omega (arith, bolt c)
+
+mul-is-available : tie.Need-mul-is-available Inv-loop μ-loop Inv-tasks μ-tasks
+mul-is-available c = omega (arith, bolt (c .before))
+
+element-copy-out-is-available : tie.Need-element-copy-out-is-available Inv-loop μ-loop Inv-tasks μ-tasks
+element-copy-out-is-available c = omega (arith, bolt (c .before))
+
+mul-is-available-2 : tie.Need-mul-is-available-2 Inv-loop μ-loop Inv-tasks μ-tasks
+mul-is-available-2 c = omega (arith, bolt (c .before .before))
+
+element-copy-out-is-available-2 : tie.Need-element-copy-out-is-available-2 Inv-loop μ-loop Inv-tasks μ-tasks
+element-copy-out-is-available-2 c = omega (arith, bolt (c .before .before))
+
 is-available-requires : tie.Need-is-available-requires Inv-loop μ-loop Inv-tasks μ-tasks
-is-available-requires c κs = number-below (c .before .loop .inv .1 .named) (c .loop-test .taken)
+is-available-requires c κs = search needs
+
+-- Whether it is there.
+abbrev A : Type 0
+A = tie.After-is-available Inv-loop μ-loop Inv-tasks μ-tasks
+
+abbrev inA : A → N
+inA c = c .before .before .before .before
+
+there : (c : A) → let d = inP (atP (inA c .before)) in let t = tOf d in
+    c .is-available .result ≡ available (kOf d .counts .tasks) (kOf d .tasks) (kOf d .locks) (t .current) (t .wait) (getD (t .list) (inA c .before .loop .j) 0)
+there c =
+    let l = inA c .before in
+    let k = kOf (inP (atP l)) in
+    c .is-available .ensures (k .locks) (l .before .if3 .writers) _ (k .counts .tasks) (k .tasks) (shows-here (k .locks) (l .before .if3 .writers) _ (bolt (inA c))) (told (l .before))
 
 add-i-3 : tie.Need-add-i-3 Inv-loop μ-loop Inv-tasks μ-tasks
 add-i-3 c =
-    let l = c .before .before .before in
+    let l = inA (c .before) .before in
     omega (arith, placed (inP (atP l)), l .loop .inv .0)
 
 tasks-less-3 : tie.Need-tasks-less-3 Inv-loop μ-loop Inv-tasks μ-tasks
 tasks-less-3 c =
-    let l = c .before .before .before in
+    let l = inA (c .before) .before in
     omega (arith, inP (atP l) .tasks-test .taken, l .loop .inv .0)
 
 tasks-again-3 : tie.Need-tasks-again-3 Inv-loop μ-loop Inv-tasks μ-tasks
 tasks-again-3 c =
-    let l = c .before .before .before in
+    let o = inA (c .before) in
+    let l = o .before in
     let d = inP (atP l) in
-    let e = servable-each _ (kOf d .tasks) (kOf d .locks) (iOf d) (waits (atP l)) ∙ sym (fails-here (l .loop .inv .1) (c .before .before .loop-test .taken) (c .before .is-available .ensures (kOf d .counts .tasks) (kOf d .tasks)) (c .if3 .taken)) in
-    (omega (arith, d .tasks-test .taken, l .loop .inv .0), rw (l .loop .inv .0) (passed d e))
+    let e = servable-each _ (kOf d .tasks) (kOf d .locks) (iOf d) (waits (atP l)) ∙ sym (fails-here (l .loop .inv .1) (o .loop-test .taken) (there (c .before)) (c .if4 .taken)) in
+    (omega (arith, d .tasks-test .taken, l .loop .inv .0), rw (l .loop .inv .0) (passed d e), known (l .before))
 
 add-j : tie.Need-add-j Inv-loop μ-loop Inv-tasks μ-tasks
-add-j c = omega (arith, short (atP (c .before .before .before)), c .before .before .loop-test .taken)
+add-j c = let o = inA (c .before) in omega (arith, short (atP (o .before)), o .loop-test .taken)
 
 loop-less : tie.Need-loop-less Inv-loop μ-loop Inv-tasks μ-tasks
 loop-less c = search needs
 
 loop-again : tie.Need-loop-again Inv-loop μ-loop Inv-tasks μ-tasks
 loop-again c =
-    let l = c .before .before .before in
-    let k = kOf (inP (atP l)) in
-    (l .loop .inv .0, passes-here (l .loop .inv .1) (c .before .before .loop-test .taken) (c .before .is-available .ensures (k .counts .tasks) (k .tasks)) (c .if3 .left))
+    let o = inA (c .before) in
+    let l = o .before in
+    (l .loop .inv .0, passes-here (l .loop .inv .1) (o .loop-test .taken) (there (c .before)) (c .if4 .left))
 
 against-requires : tie.Need-against-requires Inv-loop μ-loop Inv-tasks μ-tasks
 against-requires c κs = omega (arith, placed (inP (atP (c .before))), c .before .loop .inv .0)
@@ -212,7 +286,7 @@ tasks-again-4 c =
     let d = inP p in
     let l = c .before .before .loop in
     let e = servable-each _ (kOf d .tasks) (kOf d .locks) (iOf d) (waits p) ∙ sym (all-pass (l .inv .1) (c .before .loop-test .left)) in
-    (omega (arith, d .tasks-test .taken, l .inv .0), rw (l .inv .0) (led-more (canServe (kOf d)) (kOf d .tasks) (iOf d) (sym e) (d .before .tasks .inv .1) (weighed (placed d) (p .before .before .urgency-of .ensures) (rw (l .inv .0) at (c .against .ensures)))))
+    (omega (arith, d .tasks-test .taken, l .inv .0), rw (l .inv .0) (led-more (canServe (kOf d)) (kOf d .tasks) (iOf d) (sym e) (d .before .tasks .inv .1) (weighed (placed d) (p .before .before .urgency-of .ensures) (rw (l .inv .0) at (c .against .ensures)))), known (c .before .before .before))
 
 who-requires : tie.Need-who-requires Inv-loop μ-loop Inv-tasks μ-tasks
 who-requires c κs = search needs
@@ -231,6 +305,7 @@ next-served-spec =
     Inv-tasks
     μ-tasks
     cast-n
+    no-writers-requires
     no-lead-requires
     tasks-holds
     mul-t
@@ -250,9 +325,17 @@ next-served-spec =
     cast-m
     mul-t-2
     element-copy-out-t-2
+    is-missing-requires
+    writers-of-requires
     loop-holds
     array-read-x
     cast-x
+    mul-b
+    element-copy-out-b
+    mul-is-available
+    element-copy-out-is-available
+    mul-is-available-2
+    element-copy-out-is-available-2
     is-available-requires
     add-i-3
     tasks-less-3

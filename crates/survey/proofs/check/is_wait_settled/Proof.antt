@@ -8,14 +8,14 @@ is-waiting-requires : tie.Need-is-waiting-requires
 is-waiting-requires c κs = search needs
 
 returns : tie.Need-returns
-returns c ts = let a = c .before .before .args in
+returns c ts h = let a = c .before .before .args in
     settled-none (a .n) ts (a .locks) (a .t) (c .before .is-waiting .ensures) (c .if1 .taken)
 
 cast-len : tie.Need-cast-len
 cast-len c = search needs
 
 returns-2 : tie.Need-returns-2
-returns-2 c ts = let w = c .before .before .before .before in
+returns-2 c ts h = let w = c .before .before .before .before in
     let a = w .before .args in
     settled-long (a .n) ts (a .locks) (a .t) (w .is-waiting .ensures) (c .before .before .before .if1 .left) (c .if2 .taken)
 
@@ -23,7 +23,7 @@ is-distinct-requires : tie.Need-is-distinct-requires
 is-distinct-requires c κs = not-many (c .before .before .before .before .before .args .t .len) (c .if2 .left)
 
 returns-3 : tie.Need-returns-3
-returns-3 c ts = let e = c .before .before in
+returns-3 c ts h = let e = c .before .before in
     let w = e .before .before .before .before in
     let a = w .before .args in
     settled-twice (a .n) ts (a .locks) (a .t) (w .is-waiting .ensures) (e .before .before .before .if1 .left) (e .if2 .left)
@@ -37,7 +37,7 @@ are-below-requires c κs = let e = c .before .before .before in
     not-many (e .before .before .before .before .before .args .t .len) (e .if2 .left)
 
 returns-4 : tie.Need-returns-4
-returns-4 c ts = let d = c .before .before .before .before in
+returns-4 c ts h = let d = c .before .before .before .before in
     let e = d .before in
     let w = e .before .before .before .before in
     let a = w .before .args in
@@ -53,14 +53,14 @@ could-be-granted-requires c κs = let e = c .before .before .before .before .bef
     )
 
 returns-5 : tie.Need-returns-5
-returns-5 c ts = let b = c .before .before in
+returns-5 c ts h = let b = c .before .before in
     let d = b .before .before .before in
     let e = d .before in
     let w = e .before .before .before .before in
     let a = w .before .args in
     settled-each (a .n) ts (a .locks) (a .t) (w .is-waiting .ensures) (e .before .before .before .if1 .left) (e .if2 .left)
     (d .is-distinct .ensures) (b .before .before .if3 .left) (b .before .count-of .ensures) (b .are-below .ensures) (c .before .if4 .left)
-    (c .could-be-granted .ensures (a .n .tasks) ts)
+    (c .could-be-granted .ensures (a .n .tasks) ts h)
 
 pub is-wait-settled-spec : {M : Type 1} → statement M
 is-wait-settled-spec =

@@ -2,7 +2,7 @@
 use borrow.Author.Needs.{needs}
 use mathlib.Core.Path.{_∙_}
 use Prim.Native.Nat.{_≤_, _-_}
-use Rattle.survey.proofs.Owned.{Owned, tasks-long}
+use Rattle.granting.proofs.Owned.{Owned, tasks-long}
 use Rattle.survey.proofs.LeadLaws.{Led, canRun, led-none, led-more, led-runs}
 use Rattle.survey.proofs.scan.running.Statement.{statement}
 use Rattle.survey.proofs.scan.running.Tie as tie

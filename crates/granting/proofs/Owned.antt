@@ -25,7 +25,8 @@ use Rattle.task.specs.declared.Task.{Task}
 use Rattle.task.proofs.Task as TaskT
 use Rattle.machine.specs.Invariants.{Tables}
 use Rattle.machine.specs.State.{mostTasks, taskAt}
-use Rattle.machine.specs.Test.{mostPriority, allBelow}
+use Rattle.machine.specs.Sums.{allBelow}
+use Rattle.machine.specs.Test.{mostPriority}
 use Rattle.machine.specs.declared.State.{State}
 use Rattle.machine.proofs.State as KernelT
 use Rattle.machine.proofs.Below.{all-from}

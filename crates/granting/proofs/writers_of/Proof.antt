@@ -1,0 +1,121 @@
+-- Task by task.
+use borrow.Author.Needs.{needs}
+use mathlib.Core.Path.{refl, sym, _∙_}
+use mathlib.Core.Logic.{⊎-elim}
+use Prim.Native.Nat.{_+_, _≤_, _-_}
+use native.Mathlib.Nat.{le-antisymm}
+use Rattle.machine.specs.State.{taskAt}
+use Rattle.granting.specs.Writers.{Tells}
+use Rattle.granting.proofs.Owned.{list-long}
+use Rattle.granting.proofs.WriterLaws.{reserve-waits, tells-none, tells-passed, tells-more}
+use Rattle.granting.proofs.writers_of.Statement.{statement}
+use Rattle.granting.proofs.writers_of.Tie as tie
+
+abbrev Inv-loop : tie.InvT-loop
+Inv-loop k n w₀ i₀ w i = (i ≤ n) × Tells i (k .tasks) w
+
+abbrev μ-loop : tie.MeasureT-loop
+μ-loop k n w₀ i₀ w i = n - i
+
+-- Once task i has been looked at.
+abbrev J : Type 0
+J = tie.Joined1 Inv-loop μ-loop
+
+abbrev here : J → tie.In-loop Inv-loop μ-loop
+here c = c .before .before .before
+
+abbrev start : J → tie.Start Inv-loop μ-loop
+start c = here c .before .before .before .before .before
+
+made : (c : J) → Tells (here c .before .loop .i + 1) (start c .args .t1 .tasks) (c .if1 .w)
+made c =
+    let l = here c .before .loop in
+    let k = start c .args .t1 in
+    let r = c .before .is-reserve .ensures in
+    ⊎-elim
+    (λ w.
+    let e = sym r ∙ w .0 .taken in
+    tells-more (k .tasks) (l .i) (l .w) (c .if1 .w) (l .inv .1) (w .4 .result) e (list-long k (start c .good .0 .0, start c .good .0 .1 .1) (l .i) (reserve-waits (taskAt (k .tasks) (l .i) .wait) e)) (w .3 .ensures) (w .4 .ensures) (w .5))
+    (λ w. tells-passed (k .tasks) (l .i) (l .w) (c .if1 .w) (l .inv .1) (sym r ∙ w .0 .left) (w .1))
+    (c .if1 .came)
+
+cast-n : tie.Need-cast-n Inv-loop μ-loop
+cast-n c = search needs
+
+no-writers-requires : tie.Need-no-writers-requires Inv-loop μ-loop
+no-writers-requires c κs = search needs
+
+loop-holds : tie.Need-loop-holds Inv-loop μ-loop
+loop-holds c = (search needs, rw (c .no-writers .ensures) (tells-none _))
+
+mul-t : tie.Need-mul-t Inv-loop μ-loop
+mul-t c = search needs
+
+element-copy-out-t : tie.Need-element-copy-out-t Inv-loop μ-loop
+element-copy-out-t c = search needs
+
+is-reserve-requires : tie.Need-is-reserve-requires Inv-loop μ-loop
+is-reserve-requires c κs = search needs
+
+mul-t-2 : tie.Need-mul-t-2 Inv-loop μ-loop
+mul-t-2 c = search needs
+
+element-copy-out-t-2 : tie.Need-element-copy-out-t-2 Inv-loop μ-loop
+element-copy-out-t-2 c = search needs
+
+mul-with-list : tie.Need-mul-with-list Inv-loop μ-loop
+mul-with-list c = search needs
+
+element-copy-out-with-list : tie.Need-element-copy-out-with-list Inv-loop μ-loop
+element-copy-out-with-list c = search needs
+
+mul-shorter : tie.Need-mul-shorter Inv-loop μ-loop
+mul-shorter c = search needs
+
+element-copy-out-shorter : tie.Need-element-copy-out-shorter Inv-loop μ-loop
+element-copy-out-shorter c = search needs
+
+shorter-requires : tie.Need-shorter-requires Inv-loop μ-loop
+shorter-requires c κs = search needs
+
+with-list-requires : tie.Need-with-list-requires Inv-loop μ-loop
+with-list-requires c κs = search needs
+
+add-i : tie.Need-add-i Inv-loop μ-loop
+add-i c = search needs
+
+loop-less : tie.Need-loop-less Inv-loop μ-loop
+loop-less c = search needs
+
+loop-again : tie.Need-loop-again Inv-loop μ-loop
+loop-again c = (search needs, made c)
+
+returns : tie.Need-returns Inv-loop μ-loop
+returns c =
+    let l = c .before .before .loop in
+    record { known = refl; tells = rw (← le-antisymm (l .inv .0) (c .before .loop-test .left)) (l .inv .1) }
+
+pub writers-of-spec : {M : Type 1} → statement M
+writers-of-spec =
+    tie.close
+    (tie.spec
+    Inv-loop
+    μ-loop
+    cast-n
+    no-writers-requires
+    loop-holds
+    mul-t
+    element-copy-out-t
+    is-reserve-requires
+    mul-t-2
+    element-copy-out-t-2
+    mul-with-list
+    element-copy-out-with-list
+    mul-shorter
+    element-copy-out-shorter
+    shorter-requires
+    with-list-requires
+    add-i
+    loop-less
+    loop-again
+    returns)
