@@ -29,6 +29,7 @@ use Rattle.machine.specs.Work.{Work}
 use Rattle.machine.specs.Sorts.{declares}
 use Rattle.machine.specs.Calls.{workOf}
 use Rattle.machine.specs.Step.{refuse, finish, orRefuse, carryOut, carryOn, step}
+use Rattle.machine.specs.OnePass.{unserved}
 use Rattle.machine.specs.Log.{isDeclaration}
 use Rattle.machine.specs.Invariants.{IsDay}
 use Rattle.machine.proofs.SetLaws.{has-empty, pow-pos}
@@ -37,7 +38,7 @@ use Rattle.machine.proofs.Passed.{refusalOf, passed}
 use Rattle.machine.proofs.Opened.{opened-refused, opened-priority}
 use Rattle.machine.proofs.Cases.{late-refusal, done-number, carried-by, stepOpened, step-on}
 use Rattle.machine.proofs.Done.{Did, role, call-done}
-use Rattle.machine.proofs.Keeping.{begin, begin-ok, did-ok, finish-ok}
+use Rattle.machine.proofs.Keeping.{unserved-ok, did-ok, finish-ok}
 use Rattle.balance.specs.Counting.{accepted, asks, gives, namesIn, Asking, counts, issuedBy, grantsIn, Open, isIssuer, stays, isIn}
 use Rattle.balance.specs.Balance.{prevents}
 use Rattle.balance.proofs.Grants.{moved-refl, law-moved, no-grants}
@@ -120,12 +121,12 @@ module _ (day : ℕ) (isDay : IsDay day) (k : State) (last : Asking) (was : Open
         let last′ = lastIf (record { kind = r .asks; list = named c }) (runner k) last in
         let b = did-books day k (h .ok) c last did in
         let o = did-ok day k (h .ok) did in
-        let p = begin day k (h .ok) w in
+        let p = unserved w in
         let before : Open = waitsNow r (runner k) (waitingIn k) (w .sets .ended) in
         let asking : Open = λ i. (waitingIn k i && not (isIn (w .sets .ended) i)) || asksIf (r .asks) (runner k) i in
         let s = served-books day k (h .ok) last′ before asking (λ i. or-more (waitingIn k i && not (isIn (w .sets .ended) i)) (asksIf (r .asks) (runner k) i) (r .stays)) p
         (record {
-          ok = begin-ok day k (h .ok) w o;
+          ok = unserved-ok day k (h .ok) w o;
           kept-same = λ i. refl;
           alive-same = λ i. refl;
           ties = b .ties (h .ties);

@@ -44,21 +44,6 @@ pub fn runner_at(r: Running) -> usize
     }
 }
 
-// What kind of list a call of a sort asks for.
-pub fn asked_kind(sort: Sort) -> Wait
-    ensures { λ w. ⌜ w ≡ askedKind sort ⌝ }
-{
-    match sort {
-        Sort::Declaration => Wait::Nothing,
-        Sort::OneTask => Wait::Nothing,
-        Sort::TheRunner => Wait::Nothing,
-        Sort::ListAsked(w, _) => w,
-        Sort::ListGiven(_) => Wait::Nothing,
-        Sort::AnInterrupt => Wait::Nothing,
-        Sort::EveryTask => Wait::Nothing,
-    }
-}
-
 fn by_turn(locks: Locks, u: Turn) -> Change
     ensures { λ c. ⌜ c ≡ byTurn locks u ⌝ }
 {

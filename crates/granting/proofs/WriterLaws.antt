@@ -9,15 +9,16 @@ use native.Mathlib.Numerals.{add-one}
 use native.Mathlib.Omega.{arith}
 use lib.Dec.{leb, eqb}
 use lib.ListN.{length, getD, set, take, getD-replicate}
-use lib.Seq.{slice, slice-cons, slice-empty, getD-set-same, getD-set-other, take-all}
+use lib.Seq.{slice, slice-empty, getD-set-same, getD-set-other, take-all}
 use borrow.Author.Tests.{lt-ltb, le-ltb, leb-true, leb-false, eq-eqb, ne-eqb, not-true, not-false}
 use Rattle.record.specs.Lists.{names}
 use Rattle.record.specs.Refusals.{mostNumbers}
-use Rattle.lock.specs.Locks.{mostLocks, waiting, sameKind, valueAt, boltAt, free}
+use Rattle.lock.specs.Locks.{mostLocks, sameKind, valueAt, boltAt, free}
 use Rattle.lock.specs.declared.Wait.{Wait}
-use Rattle.lock.specs.declared.Wait.the-variants.{Nothing, Request, Reserve, Enter}
+use Rattle.lock.specs.declared.Wait.the-variants.{Reserve, Enter}
 use Rattle.lock.specs.declared.Locks.{Locks}
 use Rattle.lock.proofs.Bools.{byBool, byEq, contra}
+use Rattle.lock.proofs.Rests.{slice-next}
 use Rattle.task.specs.declared.Task.{Task}
 use Rattle.machine.specs.Sums.{allBelow}
 use Rattle.machine.specs.State.{taskAt}
@@ -49,7 +50,7 @@ module _ (w : Writers) (p x : ℕ) where
       byEq x y
       (λ e. rw (← e, eq-eqb x x refl, and-true)
       (byBool (leb p q) (λ z. let le = leb-true p q z in rw (z, le-ltb q (getD (w .first) x 0) (omega arith))) (λ z. rw (z, and-true))))
-      (λ e. rw (ne-eqb x y e) (unnamed (passes w q y) (leb p q)))
+      (elsewhere (passes w q y) (leb p q) x y)
 
   -- and one whose first writer is not.
   pub number-lowered : x < length (w .first) → p < getD (w .first) x 0 → Lowered w p (x ∷ []) (record { known = w .known; first = set (w .first) x p })
@@ -59,7 +60,7 @@ module _ (w : Writers) (p x : ℕ) where
       (λ e. rw (← e, eq-eqb x x refl, and-true, getD-set-same (w .first) x p 0 room)
       (byBool (leb p q) (λ z. let le = leb-true p q z in rw (z, le-ltb q p le, and-false))
       (λ z. let lt = leb-false p q z in rw (z, lt-ltb q p lt, lt-ltb q (getD (w .first) x 0) (omega arith)))))
-      (λ e. rw (ne-eqb x y e, getD-set-other (w .first) x y p 0 (λ z. e (sym z))) (unnamed (passes w q y) (leb p q)))
+      (λ e. rw (getD-set-other (w .first) x y p 0 (λ z. e (sym z))) (elsewhere (passes w q y) (leb p q) x y e))
 
 -- ---- a list
 
@@ -77,16 +78,13 @@ one-less true true true s = refl
 one-less true true false s = refl
 
 module _ {w : Writers} {p : ℕ} {l : List ℕ} {m j : ℕ} {now : Writers} (h : Lowering w p l m j now) where
-  step : j < m → slice j m l ≡ getD l j 0 ∷ slice (j + 1) m l
-  step less = rw add-one (slice-cons j m l 0 less (h .short))
-
   pub lowering-more : (next : Writers) → j < m → Lowered now p (getD l j 0 ∷ []) next → Lowering w p l m (j + 1) next
   unfolding names
   lowering-more next less f =
       record {
         short = h .short;
         within = omega arith;
-        rest = λ q x b z. h .rest q x b z ∙ rw (step less, f q x b z) (one-less (passes now q x) (leb p q) (eqb (getD l j 0) x) (names (slice (j + 1) m l) x));
+        rest = λ q x b z. h .rest q x b z ∙ rw (slice-next l m j (h .short) less, f q x b z) (one-less (passes now q x) (leb p q) (eqb (getD l j 0) x) (names (slice (j + 1) m l) x));
       }
 
   pub lowering-all : m ≤ j → Lowered w p (take m l) now
@@ -95,12 +93,6 @@ module _ {w : Writers} {p : ℕ} {l : List ℕ} {m j : ℕ} {now : Writers} (h :
       unnamed (passes now q x) (leb p q) ∙ sym (h .rest q x b z ∙ rw (le-antisymm (h .within) e, slice-empty))
 
 -- ---- the tasks
-
-pub reserve-waits : (v : Wait) → sameKind v Reserve ≡ true → waiting v ≡ true
-reserve-waits Nothing e = contra e refl
-reserve-waits Request e = contra e refl
-reserve-waits Reserve e = refl
-reserve-waits Enter e = contra e refl
 
 pub tells-none : (ts : List Task) → Tells 0 ts noWriters
 unfolding unopposed allBelow
@@ -129,24 +121,18 @@ module _ (ts : List Task) (i : ℕ) (w r : Writers) (h : Tells i ts w) where
 
 -- ---- what the table is good for
 
--- Whether it is known, as a scan goes on: w before a task is looked at, r after it.
-module _ (n : ℕ) (ts : List Task) where
-  pub known-none : Known n ts noWriters
-  known-none e = contra e refl
+pub known-none : (n : ℕ) (ts : List Task) → Known n ts noWriters
+known-none n ts e = contra e refl
 
-  pub known-told : {w r : Writers} → r ≡ w → Told n ts w → Known n ts r
-  known-told z h = rw z (λ e. h .tells)
+-- The table r that a scan has where it tries a list of the kind v, of the table w: it says what the list depends on.
+module _ (v : Wait) (n : ℕ) (ts : List Task) {w r : Writers} (z : r ≡ w) where
+  -- The tasks were looked at,
+  pub ready-told : Told n ts w → Known n ts r × TellsFor v n ts r
+  ready-told h = rw z (λ e. h .tells, λ e. h .tells)
 
-  pub known-kept : {w r : Writers} → r ≡ w → Known n ts w → Known n ts r
-  known-kept z h = rw z h
-
--- So it says what a list of the kind v depends on: the tasks were looked at, or nothing was missing.
-module _ (v : Wait) (n : ℕ) (ts : List Task) where
-  pub tells-told : {w r : Writers} → r ≡ w → Told n ts w → TellsFor v n ts r
-  tells-told z h = rw z (λ e. h .tells)
-
-  pub tells-known : {w r : Writers} {b : Bool} → r ≡ w → Known n ts w → b ≡ (sameKind v Enter && not (w .known)) → b ≡ false → TellsFor v n ts r
-  tells-known {w = w} z h said e = rw z (λ k. h (not-false (w .known) (sym (rw k at said) ∙ e)))
+  -- or nothing was missing.
+  pub ready-known : {b : Bool} → Known n ts w → b ≡ (sameKind v Enter && not (w .known)) → b ≡ false → Known n ts r × TellsFor v n ts r
+  ready-known h said e = rw z (h, λ k. h (not-false (w .known) (sym (rw k at said) ∙ e)))
 
 module _ (n : ℕ) (ts : List Task) (r : Locks) (q x : ℕ) where
   pub not-there : (v : Wait) {b : Bool} → b ≡ free v r x → not b ≡ true → false ≡ available n ts r q v x

@@ -36,20 +36,20 @@ Lowered w p l r =
 abbrev pub Tells : ℕ → List Task → Writers → Type 0
 Tells n ts w = (q x : ℕ) → q ≤ mostPriority → x < mostLocks → passes w q x ≡ unopposed n ts q x
 
--- And that it does.
+-- It says so, and is marked as known.
 pub record Told (n : ℕ) (ts : List Task) (w : Writers) : Type 0 where
   pub known : w .known ≡ true
   pub tells : Tells n ts w
 
--- It says so if it is known to.
+-- Where it is marked as known, it says so.
 abbrev pub Known : ℕ → List Task → Writers → Type 0
 Known n ts w = w .known ≡ true → Tells n ts w
 
--- It says so if lists of the kind v depend on it.
+-- Where lists of the kind v depend on it, it says so.
 abbrev pub TellsFor : Wait → ℕ → List Task → Writers → Type 0
 TellsFor v n ts w = sameKind v Enter ≡ true → Tells n ts w
 
--- It says so of some tasks.
+-- So it is for some tasks.
 abbrev pub ForSome : Wait → Writers → Type 0
 ForSome v w = (n : ℕ) × (ts : List Task) × TellsFor v n ts w
 

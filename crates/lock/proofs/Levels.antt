@@ -22,6 +22,22 @@ use Rattle.lock.specs.Promises.{SameAt}
 use Rattle.lock.proofs.Bools.{byEq, contra, both, bit-le}
 use Rattle.lock.proofs.Changes.{move-cases, move-local}
 
+-- Lists that count the same are of one kind.
+pub same-kind : (v w : Wait) → sameKind v w ≡ true → v ≡ w
+same-kind Nothing w e = contra e refl
+same-kind Request Nothing e = contra e refl
+same-kind Request Request e = refl
+same-kind Request Reserve e = contra e refl
+same-kind Request Enter e = contra e refl
+same-kind Reserve Nothing e = contra e refl
+same-kind Reserve Request e = contra e refl
+same-kind Reserve Reserve e = refl
+same-kind Reserve Enter e = contra e refl
+same-kind Enter Nothing e = contra e refl
+same-kind Enter Request e = contra e refl
+same-kind Enter Reserve e = contra e refl
+same-kind Enter Enter e = refl
+
 -- a is the level after g grants and r returns, b the level before.
 abbrev pub Law : Wait → ℕ → ℕ → ℕ → ℕ → Type 0
 Law Nothing a g r b = Unit {0}

@@ -35,8 +35,12 @@ pub record Changed (op : Locks → ℕ → Locks) (test : Locks → ℕ → Bool
   pub ready : every (test r) (slice j n l) ≡ true
   pub rest : forEach op r₀ (take n l) ≡ forEach op r (slice j n l)
 
+-- What is left from j on begins with the number at j.
+pub slice-next : (l : List ℕ) (n j : ℕ) → n ≤ length l → j < n → slice j n l ≡ getD l j 0 ∷ slice (j + 1) n l
+slice-next l n j short less = rw add-one (slice-cons j n l 0 less short)
+
 next : {l : List ℕ} {n j : ℕ} → Named l n → j < n → slice j n l ≡ getD l j 0 ∷ slice (j + 1) n l
-next {l} {n} {j} h less = rw add-one (slice-cons j n l 0 less (h .short))
+next {l} {n} {j} h less = slice-next l n j (h .short) less
 
 every-drop : (f : ℕ → Bool) (j : ℕ) (l : List ℕ) → every f l ≡ true → every f (drop j l) ≡ true
 unfolding every

@@ -1,5 +1,5 @@
 -- What could be granted: what it is good for, and what it looks at.
-use mathlib.Core.Path.{_≡_, refl, sym, _∙_}
+use mathlib.Core.Path.{_≡_, sym, ap, _∙_}
 use mathlib.Core.Bool.{true, false, and-true}
 use mathlib.Core.List.{List}
 use Prim.Native.Nat.{ℕ, _+_, _<_}
@@ -7,9 +7,10 @@ use native.Mathlib.Numerals.{add-one}
 use lib.Dec.{ltb}
 use Rattle.lock.specs.Locks.{waiting, sameKind, free, every, grantable}
 use Rattle.lock.specs.declared.Wait.{Wait}
-use Rattle.lock.specs.declared.Wait.the-variants.{Nothing, Request, Reserve, Enter}
+use Rattle.lock.specs.declared.Wait.the-variants.{Reserve}
 use Rattle.lock.specs.declared.Locks.{Locks}
 use Rattle.lock.proofs.Bools.{byBool, contra, both}
+use Rattle.lock.proofs.Levels.{same-kind}
 use Rattle.lock.proofs.Lists.{every-below, every-alike, every-then}
 use Rattle.task.specs.State.{wanted}
 use Rattle.task.specs.declared.Task.{Task}
@@ -42,13 +43,9 @@ unopposed-same n ts ts′ q x h = all-same n _ _ (λ i l. rw (h i l))
 
 -- Who doesn't wait goes before nobody.
 pub idle-before : (q x : ℕ) (t : Task) → waiting (t .wait) ≡ false → goesBefore q x t ≡ false
-idle-before q x t e = rw (go (t .wait) e)
-  where
-    go : (w : Wait) → waiting w ≡ false → sameKind w Reserve ≡ false
-    go Nothing e = refl
-    go Request e = refl
-    go Reserve e = contra refl e
-    go Enter e = refl
+idle-before q x t e =
+    let k : sameKind (t .wait) Reserve ≡ false = byBool (sameKind (t .wait) Reserve) (λ s. contra (ap waiting (same-kind (t .wait) Reserve s)) e) (λ s. s) in
+    rw k
 
 -- One more task, that waits for nothing, changes nothing.
 pub unopposed-more : (n : ℕ) (ts ts′ : List Task) (q x : ℕ) → ((i : ℕ) → i < n → taskAt ts′ i ≡ taskAt ts i) → waiting (taskAt ts′ n .wait) ≡ false

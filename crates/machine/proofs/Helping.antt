@@ -4,10 +4,11 @@ use mathlib.Core.Bool.{true, false}
 use Prim.Native.Nat.{ℕ}
 use Rattle.record.specs.Lists.{names}
 use Rattle.lock.specs.declared.Wait.{Wait}
-use Rattle.lock.specs.declared.Wait.the-variants.{Nothing, Request, Reserve, Enter}
+use Rattle.lock.specs.declared.Wait.the-variants.{Reserve, Enter}
 use Rattle.lock.specs.Locks.{waiting, sameKind, free}
 use Rattle.lock.proofs.Bools.{byBool, byEq, contra, both, and-both, not-of-false, or-then, then-or}
 use Rattle.lock.proofs.Lists.{every-then}
+use Rattle.lock.proofs.Levels.{same-kind}
 use Rattle.lock.proofs.Fewer.{taking-frees, reserved-shut}
 use Rattle.task.specs.State.{wanted}
 use Rattle.machine.specs.State.{taskAt}
@@ -16,18 +17,6 @@ use Rattle.machine.specs.Serving.{Served, grantTo}
 use Rattle.machine.specs.OnePass.{canBeServed, Placed, GrantsHelpNobody}
 use Rattle.machine.proofs.Below.{all-at, all-from}
 use Rattle.machine.proofs.Serving.{grant-at, grant-other}
-
-reserves : (w : Wait) → sameKind w Reserve ≡ true → w ≡ Reserve
-reserves Nothing e = contra e refl
-reserves Request e = contra e refl
-reserves Reserve e = refl
-reserves Enter e = contra e refl
-
-enters : (w : Wait) → sameKind w Enter ≡ true → w ≡ Enter
-enters Nothing e = contra e refl
-enters Request e = contra e refl
-enters Reserve e = contra e refl
-enters Enter e = refl
 
 module _ (n : ℕ) (p : Served) (j : ℕ) (placed : Placed p j) (e : canBeServed n p j ≡ true) where
   -- What can be entered after the grant, the task granted didn't wait to reserve.
@@ -38,7 +27,7 @@ module _ (n : ℕ) (p : Served) (j : ℕ) (placed : Placed p j) (e : canBeServed
       byBool (goesBefore q x t)
       (λ g.
       let a = both _ (names (wanted t) x) g in
-      let r = reserves (t .wait) (both (sameKind (t .wait) Reserve) _ (a .0) .0) in
+      let r = same-kind (t .wait) Reserve (both (sameKind (t .wait) Reserve) _ (a .0) .0) in
       contra (rw r at f) (reserved-shut (wanted t) (p .locks) x (placed r) (a .1)))
       (λ g. g)
 
@@ -57,7 +46,7 @@ module _ (n : ℕ) (p : Served) (j : ℕ) (placed : Placed p j) (e : canBeServed
       let b = both (free w (grantTo j p .locks) x) _ a in
       and-both (free-before w x (b .0))
       (then-or (sameKind w Enter) _
-      (λ s. unopposed-before q x (rw (enters w s) at (b .0)) (or-then (sameKind w Enter) _ (b .1) s)))
+      (λ s. unopposed-before q x (rw (same-kind w Enter s) at (b .0)) (or-then (sameKind w Enter) _ (b .1) s)))
 
   helped : (i : ℕ) → canBeServed n (grantTo j p) i ≡ true → canBeServed n p i ≡ true
   unfolding couldBeGranted

@@ -23,8 +23,8 @@ use Rattle.machine.specs.declared.State.{State}
 use Rattle.machine.specs.declared.Counts.{Counts}
 use Rattle.machine.specs.State.{taskAt}
 use Rattle.machine.specs.Work.{Work, changed, everyTurn}
-use Rattle.machine.specs.Serving.{Served}
 use Rattle.machine.specs.Step.{finish}
+use Rattle.machine.specs.OnePass.{unserved}
 use Rattle.machine.proofs.Facts.{Listed, TaskOk, Bounded, StateOk, proper-list, task-room}
 use Rattle.machine.proofs.Works.{oneTurn, onlyLocks, turn-at, every-length}
 use Rattle.machine.proofs.Done.{Role, Did, turned, everyone, quiet, gave, got, waits, tried, runs}
@@ -98,18 +98,14 @@ module _ (day : ℕ) (k : State) (h : StateOk day k) where
       one-ok i _ (u .0) (wait-ok day (k .counts) w (c .head .len) (c .list) (taskAt (k .tasks) i) (u .1) l (h .tasks-ok i (u .0)))
   did-ok (tried w i z r) = locks-ok (k .locks) (k .enabled) 0 refl (size-refl (k .locks)) (h .bounded)
 
-  -- What serving starts from.
-  abbrev pub begin : Work → Served
-  begin w = record { tasks = w .tasks; locks = w .locks; granted = w .sets .granted }
-
-  pub begin-ok : (w : Work) → WorkOk day k w → ServedOk day k (begin w)
-  begin-ok w a = record { tasks-size = a .tasks-size; locks-size = a .locks-size; bounded = a .bounded; tasks-ok = a .tasks-ok }
+  pub unserved-ok : (w : Work) → WorkOk day k w → ServedOk day k (unserved w)
+  unserved-ok w a = record { tasks-size = a .tasks-size; locks-size = a .locks-size; bounded = a .bounded; tasks-ok = a .tasks-ok }
 
   pub finish-ok : (w : Work) → WorkOk day k w → StateOk day (finish k w .state)
   unfolding finish
   finish-ok w a =
       let n = k .counts .tasks in
-      let s = serve-keeps n (ServedOk day k) (grant-ok day k h) n (begin w) (begin-ok w a) in
+      let s = serve-keeps n (ServedOk day k) (grant-ok day k h) n (unserved w) (unserved-ok w a) in
       record {
         tables =
             record {
@@ -123,5 +119,5 @@ module _ (day : ℕ) (k : State) (h : StateOk day k) where
         counts-ok = h .counts-ok;
         bounded = s .bounded;
         tasks-ok = s .tasks-ok;
-        stuck = serving-ends n (begin w);
+        stuck = serving-ends n (unserved w);
       }

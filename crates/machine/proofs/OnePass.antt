@@ -31,7 +31,7 @@ use Rattle.machine.proofs.Opened.{opened-priority}
 use Rattle.machine.proofs.Facts.{StateOk, ok-of-passes}
 use Rattle.machine.proofs.Done.{call-done}
 use Rattle.machine.proofs.Serving.{grant-at, grant-other, waiters, waiters-le, grant-fewer, none-waits, ServedOk, wanted-proper}
-use Rattle.machine.proofs.Keeping.{did-ok, begin-ok}
+use Rattle.machine.proofs.Keeping.{did-ok, unserved-ok}
 use Rattle.machine.proofs.Accepted.{no-refusal, step-work}
 use Rattle.machine.proofs.Helping.{grants-help-nobody}
 
@@ -144,6 +144,6 @@ calls-serve-in-one-pass day isDay k p s o c a d l b =
     let h = ok-of-passes day k p in
     let byte = opened-priority s (c .head) o (ap (λ r. r .answer) (a .opens)) in
     let done = call-done day isDay k h c (omega arith) d (passed day k c (no-refusal day k s c a)) in
-    let start = begin-ok day k h (workOf day k c) (did-ok day k h done) in
+    let start = unserved-ok day k h (workOf day k c) (did-ok day k h done) in
     rw (step-work day k s c a (sortOf (c .head .mark)) refl d)
     (serves-in-one-pass (k .counts .tasks) (unserved (workOf day k c)) l (served-placed day k h (unserved (workOf day k c)) start) b)

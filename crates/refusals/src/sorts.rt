@@ -1,6 +1,6 @@
 // What a mark is about.
 ghost use mathlib.Core.Path.{_≡_};
-ghost use Rattle.machine.specs.Sorts.{sortOf, declaring, naming};
+ghost use Rattle.machine.specs.Sorts.{sortOf, askedKind, declaring, naming};
 ghost use Rattle.refusals.specs.Inner.{aboutOne, ticking};
 use layout::Mark;
 use lock::Wait;
@@ -80,5 +80,20 @@ pub fn is_naming(sort: Sort) -> bool
         Sort::ListGiven(_) => false,
         Sort::AnInterrupt => false,
         Sort::EveryTask => false,
+    }
+}
+
+// What kind of list a call of a sort asks for.
+pub fn asked_kind(sort: Sort) -> Wait
+    ensures { λ w. ⌜ w ≡ askedKind sort ⌝ }
+{
+    match sort {
+        Sort::Declaration => Wait::Nothing,
+        Sort::OneTask => Wait::Nothing,
+        Sort::TheRunner => Wait::Nothing,
+        Sort::ListAsked(w, _) => w,
+        Sort::ListGiven(_) => Wait::Nothing,
+        Sort::AnInterrupt => Wait::Nothing,
+        Sort::EveryTask => Wait::Nothing,
     }
 }

@@ -8,7 +8,7 @@ use native.Mathlib.Nat.{le-antisymm}
 use native.Mathlib.Omega.{arith}
 use lib.Dec.{leb, ltb}
 use lib.ListN.{length, getD, take}
-use lib.Seq.{slice, slice-cons, slice-empty}
+use lib.Seq.{slice, slice-empty}
 use borrow.Author.Tests.{leb-true, not-true, not-false}
 use Rattle.calendar.specs.Limits.{lastInstant, isTimeOfDay}
 use Rattle.record.specs.Lists.{distinct}
@@ -17,6 +17,7 @@ use Rattle.lock.specs.Locks.{mostLocks, waiting, every}
 use Rattle.lock.specs.declared.Locks.{Locks}
 use Rattle.lock.proofs.Bools.{byBool, contra, both, and-both}
 use Rattle.lock.proofs.Lists.{every-more}
+use Rattle.lock.proofs.Rests.{slice-next}
 use Rattle.task.specs.State.{restOk, wanted}
 use Rattle.task.specs.declared.Task.{Task}
 use Rattle.machine.specs.State.{mostTasks, taskAt, countOf}
@@ -41,7 +42,7 @@ pub record Seen (f : ℕ → Bool) (l : List ℕ) (n j : ℕ) : Type 0 where
 
 module _ {f : ℕ → Bool} {l : List ℕ} {n j : ℕ} (p : Seen f l n j) where
   next : j < n → slice j n l ≡ getD l j 0 ∷ slice (j + 1) n l
-  next less = rw add-one (slice-cons j n l 0 less (p .short))
+  next less = slice-next l n j (p .short) less
 
   pub seen-fails : j < n → f (getD l j 0) ≡ false → false ≡ every f (take n l)
   unfolding every

@@ -1,13 +1,16 @@
 -- Task by task.
 use borrow.Author.Needs.{needs}
-use mathlib.Core.Path.{refl, sym, _∙_}
+use mathlib.Core.Path.{refl, sym, ap, _∙_}
 use mathlib.Core.Logic.{⊎-elim}
 use Prim.Native.Nat.{_+_, _≤_, _-_}
 use native.Mathlib.Nat.{le-antisymm}
+use Rattle.lock.specs.Locks.{waiting}
+use Rattle.lock.specs.declared.Wait.the-variants.{Reserve}
+use Rattle.lock.proofs.Levels.{same-kind}
 use Rattle.machine.specs.State.{taskAt}
 use Rattle.granting.specs.Writers.{Tells}
 use Rattle.granting.proofs.Owned.{list-long}
-use Rattle.granting.proofs.WriterLaws.{reserve-waits, tells-none, tells-passed, tells-more}
+use Rattle.granting.proofs.WriterLaws.{tells-none, tells-passed, tells-more}
 use Rattle.granting.proofs.writers_of.Statement.{statement}
 use Rattle.granting.proofs.writers_of.Tie as tie
 
@@ -35,7 +38,7 @@ made c =
     ⊎-elim
     (λ w.
     let e = sym r ∙ w .0 .taken in
-    tells-more (k .tasks) (l .i) (l .w) (c .if1 .w) (l .inv .1) (w .4 .result) e (list-long k (start c .good .0 .0, start c .good .0 .1 .1) (l .i) (reserve-waits (taskAt (k .tasks) (l .i) .wait) e)) (w .3 .ensures) (w .4 .ensures) (w .5))
+    tells-more (k .tasks) (l .i) (l .w) (c .if1 .w) (l .inv .1) (w .4 .result) e (list-long k (start c .good .0 .0, start c .good .0 .1 .1) (l .i) (ap waiting (same-kind (taskAt (k .tasks) (l .i) .wait) Reserve e))) (w .3 .ensures) (w .4 .ensures) (w .5))
     (λ w. tells-passed (k .tasks) (l .i) (l .w) (c .if1 .w) (l .inv .1) (sym r ∙ w .0 .left) (w .1))
     (c .if1 .came)
 

@@ -21,7 +21,7 @@ use Rattle.granting.specs.Writers.{Known, TellsFor}
 use Rattle.granting.proofs.Owned.{Owned, given-small}
 use Rattle.survey.proofs.TaskFit.{plan-none, continuation-none, no-start, Starts, start-none, start-kept, eased, odd-priority, odd-schedule, odd-continuation, odd-kept, odd-busy, fit-eased, fit-busy}
 use Rattle.survey.proofs.TestLaws.{fitAt, upto-fails, upto-all, out-of-range, counted, tasks-fit, all-fit}
-use Rattle.granting.proofs.WriterLaws.{known-none, known-told, known-kept, tells-told, tells-known}
+use Rattle.granting.proofs.WriterLaws.{known-none, ready-told, ready-known}
 use Rattle.look.proofs.Surveying.{Looked, sooner-more, sooner-same, led-eased, led-busy, looked-none, looked-next, looked-event, looked-runs, unfit-is, fit-is}
 use Rattle.look.proofs.survey.Statement.{statement}
 use Rattle.look.proofs.survey.Tie as tie
@@ -160,20 +160,15 @@ uneased c =
 abbrev doing : W → I
 doing c = turn (c .before .before .before .before .before)
 
-told : (c : W) → let k = state (passed (doing c)) in TellsFor (one (doing c) .wait) (k .counts .tasks) (k .tasks) (c .if10 .writers)
-told c =
+ready : (c : W) → let k = state (passed (doing c)) in let n = k .counts .tasks in
+    Known n (k .tasks) (c .if10 .writers) × TellsFor (one (doing c) .wait) n (k .tasks) (c .if10 .writers)
+ready c =
     let i = doing c in
+    let v = one i .wait in
     let k = state (passed i) in
-    ⊎-elim (λ w. tells-told (one i .wait) (k .counts .tasks) (k .tasks) (w .2) (w .1 .ensures))
-    (λ w. tells-known (one i .wait) (k .counts .tasks) (k .tasks) (w .1) (i .before .loop .inv .1) (c .before .is-missing .ensures) (w .0 .left))
-    (c .if10 .came)
-
-tabled : (c : W) → let k = state (passed (doing c)) in Known (k .counts .tasks) (k .tasks) (c .if10 .writers)
-tabled c =
-    let i = doing c in
-    let k = state (passed i) in
-    ⊎-elim (λ w. known-told (k .counts .tasks) (k .tasks) (w .2) (w .1 .ensures))
-    (λ w. known-kept (k .counts .tasks) (k .tasks) (w .1) (i .before .loop .inv .1))
+    let n = k .counts .tasks in
+    ⊎-elim (λ w. ready-told v n (k .tasks) (w .2) (w .1 .ensures))
+    (λ w. ready-known v n (k .tasks) (w .1) (i .before .loop .inv .1) (c .before .is-missing .ensures) (w .0 .left))
     (c .if10 .came)
 
 -- and one that is.
@@ -388,7 +383,7 @@ returns-6 c =
     c .unfit6 .ensures
     ∙ ends i (odd-busy day (k .counts) (k .tasks) (k .locks) (one i)
     (sym (e .before .is-at-ease .ensures) ∙ not-true _ (e .if9 .taken))
-    (sym (b .is-busy-ok .ensures (k .tasks) (told w)) ∙ not-true _ (c .before .if11 .taken)))
+    (sym (b .is-busy-ok .ensures (k .tasks) (ready w .1)) ∙ not-true _ (c .before .if11 .taken)))
 
 sooner-end-requires : tie.Need-sooner-end-requires Inv-loop μ-loop
 sooner-end-requires c κs = search needs
@@ -411,10 +406,10 @@ loop-again c =
     let t = one i in
     let tested = c .before .before in (
       looked-next day k (l .inv .0) (i .loop-test .taken) (c .sooner-end .result)
-          (fit-busy day (k .counts) (k .tasks) (k .locks) t (priorities (continued p)) (schedule p) (continuation (continued p)) (start u) (sym (tested .is-busy-ok .ensures (k .tasks) (told (looked c))) ∙ not-false _ (c .before .if11 .left)))
+          (fit-busy day (k .counts) (k .tasks) (k .locks) t (priorities (continued p)) (schedule p) (continuation (continued p)) (start u) (sym (tested .is-busy-ok .ensures (k .tasks) (ready (looked c) .1)) ∙ not-false _ (c .before .if11 .left)))
           (sooner-more (k .now) (delayEnd (t .hold)) (p .if5 .soonest) (starting p) {c = c .sooner-end .result} refl (c .sooner-end .ensures))
           (led-busy (k .tasks) (l .i) (l .inv .0 .leads) (uneased c)),
-      tabled (looked c),
+      ready (looked c) .0,
     )
 
 add-i-2 : tie.Need-add-i-2 Inv-loop μ-loop

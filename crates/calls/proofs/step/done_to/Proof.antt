@@ -13,7 +13,7 @@ use Rattle.machine.specs.Sorts.{sortOf, askedKind, placeOf}
 use Rattle.machine.specs.Refusals.{formalRefusal, stateRefusal}
 use Rattle.machine.proofs.Passed.{tested}
 use Rattle.granting.specs.Writers.{TellsFor}
-use Rattle.granting.proofs.WriterLaws.{known-none, tells-told, tells-known}
+use Rattle.granting.proofs.WriterLaws.{known-none, ready-told, ready-known}
 use Rattle.refusals.specs.Inner.{aboutOne}
 use Rattle.serving.proofs.TurnCases.{sound}
 use Rattle.changes.proofs.CallLaws.{in-order, place-in, ground, settled-refused}
@@ -61,8 +61,8 @@ told c =
     let o = c .before .before in
     let v = o .asked-kind .result in
     rw (← o .asked-kind .ensures)
-    (⊎-elim (λ w. tells-told v n (k .tasks) (w .2) (w .1 .ensures))
-    (λ w. tells-known v n (k .tasks) (w .1 ∙ o .before .no-writers .ensures) (known-none n (k .tasks)) (rw (o .before .no-writers .ensures) at (c .before .is-missing .ensures)) (w .0 .left))
+    (⊎-elim (λ w. ready-told v n (k .tasks) (w .2) (w .1 .ensures) .1)
+    (λ w. ready-known v n (k .tasks) (w .1 ∙ o .before .no-writers .ensures) (known-none n (k .tasks)) (rw (o .before .no-writers .ensures) at (c .before .is-missing .ensures)) (w .0 .left) .1)
     (c .if2 .came))
 
 mul-t : tie.Need-mul-t

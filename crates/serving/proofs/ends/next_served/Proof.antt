@@ -17,7 +17,7 @@ use Rattle.machine.specs.declared.State.{State}
 use Rattle.granting.specs.Writers.{Known, TellsFor}
 use Rattle.granting.proofs.Owned.{Owned, list-long}
 use Rattle.survey.proofs.LeadLaws.{Led, led-none, led-more, led-passed, weighed, against-later}
-use Rattle.granting.proofs.WriterLaws.{known-none, known-told, known-kept, tells-told, tells-known, shows-here}
+use Rattle.granting.proofs.WriterLaws.{known-none, ready-told, ready-known, shows-here}
 use Rattle.serving.proofs.WaitLaws.{Listed, tasks-fit, listed, servable-idle, servable-each}
 use Rattle.serving.proofs.ends.next_served.Statement.{statement}
 use Rattle.serving.proofs.ends.next_served.Tie as tie
@@ -170,18 +170,15 @@ J = tie.Joined3 Inv-loop μ-loop Inv-tasks μ-tasks
 abbrev inJ : J → P
 inJ c = c .before .before .before .before
 
-known : (c : J) → let k = kOf (inP (inJ c)) in Known (k .counts .tasks) (k .tasks) (c .if3 .writers)
-known c =
+ready : (c : J) → let d = inP (inJ c) in let n = kOf d .counts .tasks in
+    Known n (kOf d .tasks) (c .if3 .writers) × TellsFor (tOf d .wait) n (kOf d .tasks) (c .if3 .writers)
+ready c =
     let d = inP (inJ c) in
-    ⊎-elim (λ w. known-told (kOf d .counts .tasks) (kOf d .tasks) (w .2) (w .1 .ensures))
-    (λ w. known-kept (kOf d .counts .tasks) (kOf d .tasks) (w .1) (d .before .tasks .inv .2))
-    (c .if3 .came)
-
-told : (c : J) → let d = inP (inJ c) in TellsFor (tOf d .wait) (kOf d .counts .tasks) (kOf d .tasks) (c .if3 .writers)
-told c =
-    let d = inP (inJ c) in
-    ⊎-elim (λ w. tells-told (tOf d .wait) (kOf d .counts .tasks) (kOf d .tasks) (w .2) (w .1 .ensures))
-    (λ w. tells-known (tOf d .wait) (kOf d .counts .tasks) (kOf d .tasks) (w .1) (d .before .tasks .inv .2) (c .before .is-missing .ensures) (w .0 .left))
+    let v = tOf d .wait in
+    let n = kOf d .counts .tasks in
+    let ts = kOf d .tasks in
+    ⊎-elim (λ w. ready-told v n ts (w .2) (w .1 .ensures))
+    (λ w. ready-known v n ts (w .1) (d .before .tasks .inv .2) (c .before .is-missing .ensures) (w .0 .left))
     (c .if3 .came)
 
 loop-holds : tie.Need-loop-holds Inv-loop μ-loop Inv-tasks μ-tasks
@@ -239,7 +236,7 @@ there : (c : A) → let d = inP (atP (inA c .before)) in let t = tOf d in
 there c =
     let l = inA c .before in
     let k = kOf (inP (atP l)) in
-    c .is-available .ensures (k .locks) (l .before .if3 .writers) _ (k .counts .tasks) (k .tasks) (shows-here (k .locks) (l .before .if3 .writers) _ (bolt (inA c))) (told (l .before))
+    c .is-available .ensures (k .locks) (l .before .if3 .writers) _ (k .counts .tasks) (k .tasks) (shows-here (k .locks) (l .before .if3 .writers) _ (bolt (inA c))) (ready (l .before) .1)
 
 add-i-3 : tie.Need-add-i-3 Inv-loop μ-loop Inv-tasks μ-tasks
 add-i-3 c =
@@ -257,7 +254,7 @@ tasks-again-3 c =
     let l = o .before in
     let d = inP (atP l) in
     let e = servable-each _ (kOf d .tasks) (kOf d .locks) (iOf d) (waits (atP l)) ∙ sym (fails-here (l .loop .inv .1) (o .loop-test .taken) (there (c .before)) (c .if4 .taken)) in
-    (omega (arith, d .tasks-test .taken, l .loop .inv .0), rw (l .loop .inv .0) (passed d e), known (l .before))
+    (omega (arith, d .tasks-test .taken, l .loop .inv .0), rw (l .loop .inv .0) (passed d e), ready (l .before) .0)
 
 add-j : tie.Need-add-j Inv-loop μ-loop Inv-tasks μ-tasks
 add-j c = let o = inA (c .before) in omega (arith, short (atP (o .before)), o .loop-test .taken)
@@ -286,7 +283,7 @@ tasks-again-4 c =
     let d = inP p in
     let l = c .before .before .loop in
     let e = servable-each _ (kOf d .tasks) (kOf d .locks) (iOf d) (waits p) ∙ sym (all-pass (l .inv .1) (c .before .loop-test .left)) in
-    (omega (arith, d .tasks-test .taken, l .inv .0), rw (l .inv .0) (led-more (canServe (kOf d)) (kOf d .tasks) (iOf d) (sym e) (d .before .tasks .inv .1) (weighed (placed d) (p .before .before .urgency-of .ensures) (rw (l .inv .0) at (c .against .ensures)))), known (c .before .before .before))
+    (omega (arith, d .tasks-test .taken, l .inv .0), rw (l .inv .0) (led-more (canServe (kOf d)) (kOf d .tasks) (iOf d) (sym e) (d .before .tasks .inv .1) (weighed (placed d) (p .before .before .urgency-of .ensures) (rw (l .inv .0) at (c .against .ensures)))), ready (c .before .before .before) .0)
 
 who-requires : tie.Need-who-requires Inv-loop μ-loop Inv-tasks μ-tasks
 who-requires c κs = search needs
