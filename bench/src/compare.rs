@@ -87,7 +87,7 @@ fn expect(bytes: &[u8], coverage: &mut Coverage) -> Expected {
     for (i, record) in bytes.chunks(RECORD).enumerate() {
         let before = kernel.clone();
         let answer = kernel.step(record);
-        coverage.note(&before, record, &answer);
+        coverage.note(&before, record, &answer, &kernel);
         if has_line(&kernel, &answer) {
             push_line(&mut expected.text, &answer);
             expected.records.push(i);

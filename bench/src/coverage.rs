@@ -38,6 +38,16 @@ pub struct Coverage {
     /// Answers of TE, CO, TI and TG that grant something: to readers whose
     /// writer has ended or has another priority, or who have another one.
     let_in: [u64; 4],
+    /// Calls in which several tasks have an event.
+    several_moved: u64,
+    /// Tasks that end and start anew in one call.
+    started_anew: u64,
+    /// Waiting tasks that are granted something while they are held.
+    granted_held: u64,
+    /// Calls after which not the first by number of equally urgent tasks runs.
+    runs_by_place: u64,
+    /// Calls that serve others than they would if equals went by number.
+    served_by_place: u64,
 }
 
 impl Coverage {
@@ -45,8 +55,9 @@ impl Coverage {
         self.scripts += 1;
     }
 
-    /// One record and its answer; `before` is the kernel that it found.
-    pub fn note(&mut self, before: &Kernel, record: &[u8], answer: &Answer) {
+    /// One record and its answer; `before` is the kernel that it found, `after`
+    /// the one that it left.
+    pub fn note(&mut self, before: &Kernel, bytes: &[u8], answer: &Answer, after: &Kernel) {
         self.records += 1;
         self.numbers[usize::from(answer.number)] += 1;
         let sets = &answer.sets;
@@ -55,7 +66,7 @@ impl Coverage {
             *count += u64::from(set != 0);
         }
         self.several_granted += u64::from(sets.granted.count_ones() > 1);
-        let Some(record) = Record::read(record) else {
+        let Some(record) = Record::read(bytes) else {
             self.without_mark += 1;
             return;
         };
@@ -67,6 +78,7 @@ impl Coverage {
         self.note_kinds(&record);
         self.note_continuations(before, &record);
         self.note_bolts(before, &record, sets.granted != 0);
+        self.note_turns(before, bytes, answer, after);
     }
 
     fn note_kinds(&mut self, record: &Record) {
@@ -110,6 +122,29 @@ impl Coverage {
             Mark::Tick => self.let_in[2] += u64::from(granted),
             Mark::Trigger => self.let_in[3] += u64::from(granted),
             _ => {}
+        }
+    }
+
+    /// What places do in this call, or it to them.
+    fn note_turns(&mut self, before: &Kernel, bytes: &[u8], answer: &Answer, after: &Kernel) {
+        let sets = &answer.sets;
+        if let Ok(found) = before.survey() {
+            let events = after.events(&found, sets.started);
+            self.several_moved += u64::from(events.count_ones() > 1);
+        }
+        self.started_anew += u64::from((sets.started & sets.ended).count_ones());
+        for (i, task) in before.declared_tasks().iter().enumerate() {
+            let granted = sets.granted & (1 << i) != 0;
+            self.granted_held += u64::from(granted && task.waits() && after.tasks[i].held());
+        }
+        let mut by_number = after.clone();
+        by_number.forget_events();
+        self.runs_by_place += u64::from(by_number.running() != answer.running);
+        let mut by_number = before.clone();
+        by_number.forget_events();
+        if by_number.running() == before.running() {
+            let served = by_number.step(bytes).sets.granted;
+            self.served_by_place += u64::from(served != sets.granted);
         }
     }
 }
@@ -179,6 +214,18 @@ impl fmt::Display for Coverage {
              RESERVEs that wait with a bolt free {}",
             self.held_up, self.passed, self.partly_free
         )?;
-        writeln!(f, "answers of TE, CO, TI, TG that grant: {:?}", self.let_in)
+        writeln!(f, "answers of TE, CO, TI, TG that grant: {:?}", self.let_in)?;
+        writeln!(
+            f,
+            "calls that move several tasks {}, tasks that start anew at their end {}, \
+             granted while held {}",
+            self.several_moved, self.started_anew, self.granted_held
+        )?;
+        writeln!(
+            f,
+            "calls whose runner goes by its place and not by its number {}, \
+             that serve by place and not by number {}",
+            self.runs_by_place, self.served_by_place
+        )
     }
 }

@@ -3,6 +3,7 @@
 use crate::answer::Sets;
 use crate::kernel::{Kernel, List, Wait};
 use crate::limits::{FULL, TASKS};
+use crate::runner::urgency;
 
 impl Kernel {
     /// Whether task `i` can have everything that this wait names now. The set
@@ -91,12 +92,12 @@ impl Kernel {
     /// The one to be served next.
     pub fn most_urgent_grantable(&self, waiting: u32) -> Option<usize> {
         let mut best = None;
-        let mut best_priority = u16::MAX;
+        let mut best_urgency = u16::MAX;
         for i in members(waiting) {
             let task = &self.tasks[i];
-            let priority = u16::from(task.current.get());
-            if priority < best_priority && self.grantable(i, &task.wait, waiting) {
-                best_priority = priority;
+            let urgency = urgency(task.current, self.places[i]);
+            if urgency < best_urgency && self.grantable(i, &task.wait, waiting) {
+                best_urgency = urgency;
                 best = Some(i);
             }
         }
@@ -123,7 +124,7 @@ fn all(list: &List, fits: impl Fn(usize) -> bool) -> bool {
 
 /// The tasks of a set, by number.
 #[inline(always)]
-fn members(mut set: u32) -> impl Iterator<Item = usize> {
+pub fn members(mut set: u32) -> impl Iterator<Item = usize> {
     std::iter::from_fn(move || {
         let first = set.trailing_zeros() as usize;
         set &= set.wrapping_sub(1);

@@ -134,7 +134,12 @@ impl Task {
 
     #[inline(always)]
     pub fn runnable(&self) -> bool {
-        matches!(self.state, State::Unheld) && matches!(self.wait, Wait::Nothing)
+        matches!(self.state, State::Unheld) && !self.waits()
+    }
+
+    #[inline(always)]
+    pub fn waits(&self) -> bool {
+        !matches!(self.wait, Wait::Nothing)
     }
 
     pub fn start(&mut self, priority: Priority) {
@@ -168,6 +173,8 @@ pub struct Kernel {
     pub called: bool,
     pub counts: Counts,
     pub tasks: [Task; TASKS],
+    /// The place of each task in the order of events, see `turns.rs`.
+    pub places: [u8; TASKS],
     pub semaphores: [u16; SEMAPHORES],
     pub bolts: [Bolt; BOLTS],
     pub enabled: [bool; INTERRUPTS],
@@ -181,6 +188,7 @@ impl Kernel {
             called: false,
             counts: Counts::default(),
             tasks: [Task::declared(Priority::MIN); TASKS],
+            places: [0; TASKS],
             semaphores: [0; SEMAPHORES],
             bolts: [Bolt::default(); BOLTS],
             enabled: [false; INTERRUPTS],
@@ -194,5 +202,16 @@ impl Kernel {
 
     pub fn declared_tasks_mut(&mut self) -> &mut [Task] {
         &mut self.tasks[..usize::from(self.counts.tasks).min(TASKS)]
+    }
+
+    /// The places of the tasks declared.
+    pub fn declared_places_mut(&mut self) -> &mut [u8] {
+        &mut self.places[..usize::from(self.counts.tasks).min(TASKS)]
+    }
+
+    /// The tasks declared, each with its place.
+    #[inline(always)]
+    pub fn tasks_and_places(&self) -> impl Iterator<Item = (&Task, &u8)> {
+        self.declared_tasks().iter().zip(&self.places)
     }
 }

@@ -22,6 +22,7 @@ mod step;
 mod tests;
 mod timing;
 mod trouble;
+mod turns;
 
 use std::io::{self, Write};
 use std::process::ExitCode;
@@ -31,7 +32,7 @@ use trouble::no_output;
 const USAGE: &str = "usage:
   bench reference                      records on standard input, lines on standard output
   bench generate KIND SEED RECORDS     a random script: valid, damaged, contended,
-                                       idle or writers
+                                       idle, writers or turns
   bench heavy KIND RECORDS             a long script: ticks, calls or readers
   bench compare PROGRAM COUNT SEED     random scripts through PROGRAM and the reference
   bench coverage COUNT SEED            what those scripts reach

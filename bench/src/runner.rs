@@ -1,10 +1,16 @@
-//! Finding the running task.
+//! Who goes before whom, and finding the running task.
 
 use crate::kernel::{Kernel, Priority};
 
+/// The priority, and then the place: the smaller, the more urgent.
+#[inline(always)]
+pub fn urgency(priority: Priority, place: u8) -> u16 {
+    u16::from(priority.get()) << 8 | u16::from(place)
+}
+
 /// The most urgent of the tasks seen so far.
 pub struct Runner {
-    /// The priority, above all real ones at first, and then the number: one
+    /// The urgency, above all real ones at first, and then the number: one
     /// value, so that loops can keep it in one register.
     key: u32,
 }
@@ -16,8 +22,8 @@ impl Runner {
 
     /// One more runnable task.
     #[inline(always)]
-    pub fn consider(&mut self, number: usize, priority: Priority) {
-        let key = u32::from(priority.get()) << 8 | number as u32;
+    pub fn consider(&mut self, number: usize, urgency: u16) {
+        let key = u32::from(urgency) << 8 | number as u32;
         if key < self.key {
             self.key = key;
         }
@@ -29,12 +35,12 @@ impl Runner {
 }
 
 impl Kernel {
-    /// The runnable task of smallest priority number, the first of equals.
+    /// The most urgent of the runnable tasks.
     pub fn running(&self) -> Option<u8> {
         let mut runner = Runner::none();
-        for (i, task) in self.declared_tasks().iter().enumerate() {
+        for (i, (task, &place)) in self.tasks_and_places().enumerate() {
             if task.runnable() {
-                runner.consider(i, task.current);
+                runner.consider(i, urgency(task.current, place));
             }
         }
         runner.number()

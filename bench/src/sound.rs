@@ -1,19 +1,22 @@
 //! Refusal 1: is the kernel value one that may be worked with?
 //!
-//! The same pass over the tasks finds the running one and those that wait. What
-//! the types rule out, such as a priority of 0, a semaphore above 65,535 or a
-//! terminated task that is held, needs no test.
+//! The same look finds the running task and those that wait. What the types rule
+//! out, such as a priority of 0, a semaphore above 65,535 or a terminated task
+//! that is held, needs no test.
 
 use crate::calendar::{is_duration, is_time_of_day};
+use crate::grant::members;
 use crate::kernel::{Continuation, End, Kernel, List, Origin, Schedule, State, Task, Wait};
 use crate::limits::{BOLTS, INTERRUPTS, LAST_INSTANT, LAST_TICK, LIST, LONGEST, SEMAPHORES, TASKS};
-use crate::runner::Runner;
+use crate::runner::{urgency, Runner};
 
 pub struct Unsound;
 
 /// What a look at a sound kernel finds.
 pub struct Survey {
     pub running: Option<u8>,
+    /// All tasks that could run, as a set.
+    pub runnable: u32,
     /// All tasks that wait, as a set.
     pub waiting: u32,
 }
@@ -21,21 +24,24 @@ pub struct Survey {
 impl Kernel {
     /// Who runs and who waits, if the kernel is sound.
     ///
-    /// A function of its own, so that its loop keeps all it needs in registers.
+    /// A function of its own that calls nothing in its loop, which so keeps all
+    /// it needs in registers.
     #[inline(never)]
     pub fn survey(&self) -> Result<Survey, Unsound> {
         if !self.frame_is_sound() {
             return Err(Unsound);
         }
         let mut runner = Runner::none();
-        let mut waiting = 0;
-        for (i, task) in self.declared_tasks().iter().enumerate() {
-            if task.runnable() {
-                runner.consider(i, task.current);
-            } else if !self.pause_is_sound(task) {
+        let mut runnable = 0;
+        let mut taken = 0;
+        for (i, (task, &place)) in self.tasks_and_places().enumerate() {
+            if usize::from(place) >= TASKS {
                 return Err(Unsound);
-            } else {
-                waiting |= u32::from(!matches!(task.wait, Wait::Nothing)) << i;
+            }
+            taken |= 1 << place;
+            if task.runnable() {
+                runner.consider(i, urgency(task.current, place));
+                runnable |= 1 << i;
             }
             if let Some(schedule) = &task.schedule {
                 if !self.schedule_is_sound(schedule) {
@@ -48,13 +54,33 @@ impl Kernel {
                 }
             }
         }
-        if waiting != 0 && self.most_urgent_grantable(waiting).is_some() {
+        // As many places as tasks: if one were taken twice, one would be missing.
+        let all = ((1u64 << self.counts.tasks) - 1) as u32;
+        if taken != all {
             return Err(Unsound);
         }
         Ok(Survey {
             running: runner.number(),
-            waiting,
+            runnable,
+            waiting: self.survey_pauses(all & !runnable)?,
         })
+    }
+
+    /// Who of these tasks waits, if what keeps each of them from running is sound.
+    #[inline(never)]
+    fn survey_pauses(&self, paused: u32) -> Result<u32, Unsound> {
+        let mut waiting = 0;
+        for i in members(paused) {
+            let task = &self.tasks[i];
+            if !self.pause_is_sound(task) {
+                return Err(Unsound);
+            }
+            waiting |= u32::from(task.waits()) << i;
+        }
+        if members(waiting).any(|i| self.grantable(i, &self.tasks[i].wait, waiting)) {
+            return Err(Unsound);
+        }
+        Ok(waiting)
     }
 
     fn frame_is_sound(&self) -> bool {
@@ -66,8 +92,7 @@ impl Kernel {
             && is_time_of_day(self.at_zero)
     }
 
-    /// What keeps a task from running.
-    #[inline(never)]
+    #[inline(always)]
     fn pause_is_sound(&self, task: &Task) -> bool {
         let state_is_sound = match task.state {
             State::Terminated => {

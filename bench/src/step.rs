@@ -12,13 +12,13 @@ type Refusal = u8;
 /// What has to be looked for after an accepted call.
 #[derive(PartialEq, Eq)]
 enum Effect {
-    /// Nothing: the runner goes on, and no list opened. No wait, hold or
-    /// priority is another one, and nothing was given back. If that were wrong,
-    /// the next record would find a grantable list and get refusal 1.
+    /// Nothing: the runner goes on, no list opened, and nobody had an event. No
+    /// wait, hold or priority is another one, and nothing was given back. If that
+    /// were wrong, the next record would find a grantable list and get refusal 1.
     Quiet,
-    /// Lists that opened; without one the runner goes on.
+    /// Lists that opened; without one nobody had an event and the runner goes on.
     MayOpen,
-    /// Lists that opened, and who runs then.
+    /// Lists that opened, events, and who runs then.
     MayTurn,
 }
 
@@ -58,11 +58,11 @@ impl Kernel {
         let effect = self.call(&record, found, sets)?;
         self.called = true;
         let served = effect != Effect::Quiet && self.serve_after(found, sets);
-        Ok(if served || effect == Effect::MayTurn {
-            self.running()
-        } else {
-            found.running
-        })
+        if !served && effect != Effect::MayTurn {
+            return Ok(found.running);
+        }
+        self.take_turns(found, sets.started);
+        Ok(self.running())
     }
 
     /// Serves at the end of a call; `found` is from its beginning. Hands back
@@ -97,6 +97,7 @@ impl Kernel {
                 let place = next_place(&mut self.counts.tasks, TASKS)?;
                 let priority = Priority::new(record.priority).ok_or(3)?;
                 self.tasks[place] = Task::declared(priority);
+                self.places[place] = place as u8;
             }
             Mark::DeclareSemaphore => {
                 let place = next_place(&mut self.counts.semaphores, SEMAPHORES)?;

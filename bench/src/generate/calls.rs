@@ -93,16 +93,35 @@ const WRITERS: &Weights = &[
     (b"TI", 13),
 ];
 
+const TURNS: &Weights = &[
+    (b"AC", 16),
+    (b"TE", 2),
+    (b"SU", 5),
+    (b"PR", 1),
+    (b"CO", 7),
+    (b"EN", 9),
+    (b"RE", 9),
+    (b"RQ", 12),
+    (b"RL", 9),
+    (b"TR", 3),
+    (b"RS", 5),
+    (b"FR", 5),
+    (b"ET", 6),
+    (b"LV", 5),
+    (b"TG", 7),
+    (b"EI", 3),
+    (b"XI", 1),
+    (b"TI", 18),
+];
+
 impl Maker {
     pub fn call(&mut self) -> Draft {
         if self.random.once_in(15) {
             let mark = self.mark();
             return self.loose(mark);
         }
-        if self.kind == Kind::Writers && self.random.once_in(4) {
-            if let Some(draft) = self.call_about_rivals() {
-                return draft;
-            }
+        if let Some(draft) = self.what_the_kind_is_for() {
+            return draft;
         }
         for _ in 0..10 {
             let mark = self.mark();
@@ -113,12 +132,22 @@ impl Maker {
         Draft::new(b"TI")
     }
 
+    /// Now and then a call that the kind of script is made for.
+    fn what_the_kind_is_for(&mut self) -> Option<Draft> {
+        match self.kind {
+            Kind::Writers if self.random.percent(25) => self.call_about_rivals(),
+            Kind::Turns if self.random.percent(40) => self.call_about_turns(),
+            _ => None,
+        }
+    }
+
     fn mark(&mut self) -> &'static [u8; 2] {
         let weights = match self.kind {
             Kind::Valid | Kind::Damaged => EVEN,
             Kind::Contended => CONTENDED,
             Kind::Idle => IDLE,
             Kind::Writers => WRITERS,
+            Kind::Turns => TURNS,
         };
         let total = weights.iter().map(|(_, weight)| weight).sum();
         let mut left = self.random.below(total);
@@ -217,7 +246,7 @@ impl Maker {
         let plain = match self.kind {
             Kind::Contended | Kind::Writers => 95,
             Kind::Idle => 20,
-            Kind::Valid | Kind::Damaged => 50,
+            Kind::Valid | Kind::Damaged | Kind::Turns => 50,
         };
         if self.random.percent(plain) {
             let task = self.some_task(|t| !t.alive())?;
@@ -306,10 +335,18 @@ impl Maker {
 
     fn priority_or_none(&mut self) -> u8 {
         match self.random.below(8) {
+            0 if self.kind == Kind::Turns => self.random.between(3, 5) as u8,
+            _ if self.kind == Kind::Turns => 0,
             0..=3 => 0,
             4 => self.random.between(1, 255) as u8,
             _ => self.random.between(1, 6) as u8,
         }
+    }
+
+    /// Whether tasks share few bolts or semaphores and get in each other's way
+    /// within a few ticks.
+    fn is_dense(&self) -> bool {
+        matches!(self.kind, Kind::Writers | Kind::Turns)
     }
 
     /// Mostly so short that it runs out within the script.
@@ -323,7 +360,7 @@ impl Maker {
             3 if matches!(self.kind, Kind::Valid | Kind::Damaged | Kind::Contended) => {
                 self.random.between(1, LONGEST)
             }
-            _ if self.kind == Kind::Writers => self.random.between(1, 4),
+            _ if self.is_dense() => self.random.between(1, 4),
             _ => self.random.between(1, 12),
         }
     }
@@ -336,7 +373,7 @@ impl Maker {
             1 => self.random.pick(&[0, 1, DAY - 1]),
             2 => present,
             3 => (present + DAY - self.random.between(1, 20)) % DAY,
-            _ if self.kind == Kind::Writers => (present + self.random.between(0, 4)) % DAY,
+            _ if self.is_dense() => (present + self.random.between(0, 4)) % DAY,
             _ => (present + self.random.between(0, 25)) % DAY,
         }
     }
@@ -344,7 +381,8 @@ impl Maker {
     /// What the runner asks for. The last runnable task asks only for what it can get.
     fn wish(&mut self, mark: &[u8; 2]) -> Option<Vec<u8>> {
         let runnable = self.kernel.declared_tasks().iter().filter(|t| t.runnable());
-        let modest = runnable.count() < 2 || self.random.percent(45);
+        let modesty = if self.kind == Kind::Turns { 20 } else { 45 };
+        let modest = runnable.count() < 2 || self.random.percent(modesty);
         let choices = match mark {
             b"RQ" | b"TR" => self.semaphores(|value| !modest || value > 0),
             _ if modest => self.bolts_to_be_had(mark),
@@ -357,9 +395,9 @@ impl Maker {
         Some(list)
     }
 
-    /// One to four of the choices, in any order; one or two where bolts are few.
-    fn some_of(&mut self, mut choices: Vec<u8>) -> Option<Vec<u8>> {
-        let most = if self.kind == Kind::Writers { 2 } else { 4 };
+    /// One to four of the choices, in any order; one or two where there are few.
+    pub fn some_of(&mut self, mut choices: Vec<u8>) -> Option<Vec<u8>> {
+        let most = if self.is_dense() { 2 } else { 4 };
         self.random.shuffle(&mut choices);
         choices.truncate(self.random.between(1, most) as usize);
         if choices.is_empty() {
@@ -369,7 +407,7 @@ impl Maker {
         }
     }
 
-    fn semaphores(&self, fits: impl Fn(u16) -> bool) -> Vec<u8> {
+    pub fn semaphores(&self, fits: impl Fn(u16) -> bool) -> Vec<u8> {
         let count = usize::from(self.kernel.counts.semaphores);
         numbers_where(&self.kernel.semaphores[..count], |&value| fits(value))
     }

@@ -72,6 +72,9 @@ impl Maker {
             (Kind::Writers, b"DT") => self.random.between(5, 16),
             (Kind::Writers, b"DB") => self.random.between(2, 4),
             (Kind::Writers, b"IT") => self.random.between(1, 2),
+            (Kind::Turns, b"DT") => self.random.between(6, 20),
+            (Kind::Turns, b"DS") => self.random.between(1, 3),
+            (Kind::Turns, b"DB" | b"IT") => self.random.between(1, 2),
             (_, b"DT") => self.random.between(1, 20),
             (_, b"IT") => self.random.between(1, 4),
             _ => self.random.between(1, 8),
@@ -81,6 +84,8 @@ impl Maker {
     /// Few different priorities, so that equals are common.
     fn task(&mut self) -> Draft {
         let priority = match self.random.below(10) {
+            0..=2 if self.kind == Kind::Turns => self.random.between(3, 5),
+            _ if self.kind == Kind::Turns => 4,
             0 => self.random.between(1, 255),
             1 => 255,
             _ => self.random.between(1, 6),
@@ -90,6 +95,7 @@ impl Maker {
 
     fn semaphore(&mut self) -> Draft {
         let preset = match self.random.below(10) {
+            1..=9 if self.kind == Kind::Turns => self.random.below(2),
             0 => 65_535,
             1 => 65_534,
             2 if self.kind != Kind::Contended => self.random.below(65_536),

@@ -7,6 +7,7 @@ mod bolts;
 mod calls;
 mod damage;
 mod declare;
+mod turns;
 
 use crate::draft::Draft;
 use crate::kernel::{Kernel, Task};
@@ -26,14 +27,18 @@ pub enum Kind {
     /// Readers and writers of few bolts; while they wait they are held, go on
     /// with another priority, or end.
     Writers,
+    /// Many equally urgent tasks that start anew, wait for the same, are held
+    /// and go on, often several in one call.
+    Turns,
 }
 
-pub const KINDS: [Kind; 5] = [
+pub const KINDS: [Kind; 6] = [
     Kind::Valid,
     Kind::Damaged,
     Kind::Contended,
     Kind::Idle,
     Kind::Writers,
+    Kind::Turns,
 ];
 
 impl Kind {
@@ -44,6 +49,7 @@ impl Kind {
             Kind::Contended => "contended",
             Kind::Idle => "idle",
             Kind::Writers => "writers",
+            Kind::Turns => "turns",
         }
     }
 

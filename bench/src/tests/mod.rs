@@ -5,6 +5,7 @@ mod formats;
 mod marked;
 mod readings;
 mod scripts;
+mod turns;
 mod unsound;
 mod writers;
 
@@ -54,6 +55,14 @@ fn after(drafts: &[Draft]) -> Kernel {
         assert_eq!(kernel.step(&draft.bytes()).number, 0);
     }
     kernel
+}
+
+/// Each of these calls, with the line that it gets.
+#[track_caller]
+fn steps<const N: usize>(kernel: &mut Kernel, steps: [(Draft, &str); N]) {
+    for (i, (draft, line)) in steps.into_iter().enumerate() {
+        assert_eq!(feed(kernel, &[draft]), [line], "step {i}");
+    }
 }
 
 /// The number alone that a draft gets.

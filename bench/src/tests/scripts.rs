@@ -1,10 +1,10 @@
 //! The random and the long scripts, and the reading of scripts in batches.
 
-use crate::generate::{script, KINDS};
+use crate::generate::{script, Kind, KINDS};
 use crate::heavy;
 use crate::kernel::{Kernel, List, Priority, Wait};
-use crate::limits::{FULL, RECORD};
-use crate::lines;
+use crate::limits::{FULL, RECORD, TASKS};
+use crate::lines::{self, has_line, push_line};
 use crate::record::{Mark, Record};
 
 fn text(script: &[u8]) -> String {
@@ -94,6 +94,108 @@ fn readers_wait_exactly_while_they_may_not_enter() {
                 }
             }
         }
+    }
+}
+
+/// In which call each task had its last event, the first call being 1; 0 if it
+/// had none.
+#[derive(Default)]
+struct History {
+    calls: u32,
+    events: [u32; TASKS],
+}
+
+impl History {
+    /// One more accepted call, by the words of the rule.
+    fn note(&mut self, before: &Kernel, started: u32, after: &Kernel) {
+        self.calls += 1;
+        for (i, task) in after.declared_tasks().iter().enumerate() {
+            let was = &before.tasks[i];
+            let starts = started & (1 << i) != 0;
+            let runnable = task.runnable() && (!was.runnable() || starts);
+            if runnable || (task.waits() && !was.waits()) {
+                self.events[i] = self.calls;
+            }
+        }
+    }
+
+    /// Of equally urgent tasks the one with the smaller turn goes first.
+    fn turn(&self, i: usize) -> (u32, usize) {
+        (self.events[i], i)
+    }
+
+    /// Whether a task that this call grants its wait goes before all that are as
+    /// urgent and wait on for the same.
+    fn serves_in_turn(&self, i: usize, before: &Kernel, after: &Kernel) -> bool {
+        let same = |j: &usize| {
+            let (one, other) = (&after.tasks[i], &after.tasks[*j]);
+            other.waits() && other.wait == before.tasks[i].wait && other.current == one.current
+        };
+        let mut others = (0..after.declared_tasks().len()).filter(same);
+        others.all(|j| self.turn(i) < self.turn(j))
+    }
+}
+
+#[test]
+fn equally_urgent_tasks_go_by_their_last_events() {
+    for seed in 0..200 {
+        for kind in KINDS {
+            let mut kernel = Kernel::new();
+            let mut history = History::default();
+            for record in script(kind, seed, 200).chunks(RECORD) {
+                let before = kernel.clone();
+                let answer = kernel.step(record);
+                let tasks = kernel.declared_tasks();
+                if answer.number == 0 && kernel.called {
+                    let served =
+                        |i: &usize| answer.sets.granted & (1 << i) != 0 && before.tasks[*i].waits();
+                    for i in (0..tasks.len()).filter(served) {
+                        let in_turn = history.serves_in_turn(i, &before, &kernel);
+                        assert!(in_turn, "{kind:?} {seed}");
+                    }
+                    history.note(&before, answer.sets.started, &kernel);
+                }
+                let mut order: Vec<usize> = (0..tasks.len()).collect();
+                order.sort_by_key(|&i| history.turn(i));
+                for (place, &i) in order.iter().enumerate() {
+                    assert_eq!(usize::from(kernel.places[i]), place, "{kind:?} {seed}");
+                }
+                order.retain(|&i| tasks[i].runnable());
+                let first = order.iter().min_by_key(|&&i| tasks[i].current);
+                let running = answer.running.map(usize::from);
+                assert_eq!(running, first.copied(), "{kind:?} {seed}");
+            }
+        }
+    }
+}
+
+/// The lines that a script would get if equally urgent tasks went by number.
+fn text_by_number(script: &[u8]) -> String {
+    let mut kernel = Kernel::new();
+    let mut out = Vec::new();
+    for record in script.chunks(RECORD) {
+        let mut answer = kernel.step(record);
+        kernel.forget_events();
+        answer.running = kernel.running();
+        if has_line(&kernel, &answer) {
+            push_line(&mut out, &answer);
+        }
+    }
+    String::from_utf8(out).unwrap()
+}
+
+/// Of 100 scripts of this kind, those in which turns can be told from numbers.
+fn scripts_that_show_turns(kind: Kind) -> usize {
+    let scripts = (0..100).map(|seed| script(kind, seed, 200));
+    scripts.filter(|s| text(s) != text_by_number(s)).count()
+}
+
+#[test]
+fn random_scripts_tell_turns_from_numbers() {
+    for kind in KINDS {
+        let least = if kind == Kind::Turns { 80 } else { 20 };
+        let found = scripts_that_show_turns(kind);
+        assert!(found >= least, "{found} of 100 {kind:?}");
     }
 }
 

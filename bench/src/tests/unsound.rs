@@ -54,6 +54,53 @@ fn counts_and_clocks() {
     assert_eq!(number_after(|k| k.at_zero = DAY), 1);
 }
 
+/// After its activation task 0 stands behind task 1.
+#[test]
+fn places() {
+    assert_eq!(kernel().places[..2], [1, 0]);
+    let with = |places: [u8; 2]| number_after(|k| k.places[..2].copy_from_slice(&places));
+    assert_eq!(with([1, 0]), 2);
+    assert_eq!(with([0, 1]), 2);
+    assert_eq!(with([0, 0]), 1);
+    assert_eq!(with([1, 1]), 1);
+    for beyond in [2, 31, 32, 33, 64, 65, 128, 255] {
+        assert_eq!(with([0, beyond]), 1, "{beyond}");
+        assert_eq!(with([beyond, 0]), 1, "{beyond}");
+        assert_eq!(with([beyond, beyond]), 1, "{beyond}");
+    }
+}
+
+#[test]
+fn places_of_undeclared_tasks() {
+    let third = |place: u8, count: u8| {
+        number_after(|k| {
+            k.places[2] = place;
+            k.counts.tasks = count;
+        })
+    };
+    for place in [0, 1, 2, 31, 32, 255] {
+        assert_eq!(third(place, 2), 2, "{place}");
+        assert_eq!(third(place, 3), if place == 2 { 2 } else { 1 }, "{place}");
+    }
+    assert_eq!(third(2, 1), 1);
+    assert_eq!(third(2, 0), 2);
+}
+
+#[test]
+fn places_of_all_32_tasks() {
+    let mut kernel = after(&[task(1); 32]);
+    assert_eq!(kernel.step(b"not a record").number, 2);
+    for (a, b) in [(0, 31), (17, 4), (31, 30)] {
+        let mut other = kernel.clone();
+        other.places.swap(a, b);
+        assert_eq!(other.step(b"not a record").number, 2);
+        other.places[a] = other.places[b];
+        assert_eq!(other.step(b"not a record").number, 1);
+    }
+    kernel.places[31] = 32;
+    assert_eq!(kernel.step(b"not a record").number, 1);
+}
+
 #[test]
 fn terminated_tasks() {
     let one = List {
@@ -137,6 +184,7 @@ fn waiting_readers_and_writers() {
     let undeclared = |k: &mut Kernel| {
         k.tasks[1].current = Priority::MIN;
         k.counts.tasks = 1;
+        k.places[0] = 0;
     };
     assert_eq!(with(undeclared), 1);
 }

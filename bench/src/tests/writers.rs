@@ -1,7 +1,6 @@
 //! Waiting writers that go before readers, one test for each point.
 
-use super::{after, feed, lines, r, task};
-use crate::draft::Draft;
+use super::{after, feed, lines, r, steps, task};
 use crate::kernel::{Kernel, State, Wait};
 
 /// Task 0 runs and nobody is granted anything.
@@ -34,14 +33,6 @@ fn reader_waits_too() -> Kernel {
     let mut kernel = writer_waits(5, &[0], 5);
     assert_eq!(feed(&mut kernel, &[r(b"ET").list(&[0])]), [QUIET]);
     kernel
-}
-
-/// Each of these calls, with the line that it gets.
-#[track_caller]
-fn steps<const N: usize>(kernel: &mut Kernel, steps: [(Draft, &str); N]) {
-    for (i, (draft, line)) in steps.into_iter().enumerate() {
-        assert_eq!(feed(kernel, &[draft]), [line], "step {i}");
-    }
 }
 
 #[test]

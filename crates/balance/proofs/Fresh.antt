@@ -142,12 +142,13 @@ module _ (day : ℕ) (isDay : IsDay day) where
   unfolding nothing
   nothing-ok =
       record {
-        tables = record { tasks = refl; semaphores = refl; bolts = refl; enabled = refl };
+        tables = record { tasks = refl; places = refl; semaphores = refl; bolts = refl; enabled = refl };
         now-ok = omega arith;
         clock-ok = isDay .some;
         counts-ok = record { tasks = omega arith; semaphores = omega arith; bolts = omega arith; interrupts = omega arith };
         bounded = bounded-of _ _ (λ s l. absurd (not-suc-le-zero l)) (λ b l. absurd (not-suc-le-zero l));
         tasks-ok = λ i l. absurd (not-suc-le-zero l);
+        places-ok = record { range = λ i l. absurd (not-suc-le-zero l); apart = λ i j l. absurd (not-suc-le-zero l) };
         stuck = λ i l. absurd (not-suc-le-zero l);
       }
 

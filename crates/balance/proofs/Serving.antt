@@ -97,5 +97,5 @@ module _ (day : ℕ) (k : State) (h : StateOk day k) (last : Asking) (before ask
           exclusive = unfold grantTo in move-exclusive (k .counts .bolts) Take (t .wait) _ (wanted t) (q .locks) (wanted-proper day k h q (b .ok) j lt waits) (served-free n q j e) (b .exclusive);
         }
 
-  pub served-books : ServedBooks day k last before asking p p → ServedBooks day k last before asking p (serve n n p)
-  served-books b = serve-keeps n (ServedBooks day k last before asking p) grant-books n p b
+  pub served-books : ServedBooks day k last before asking p p → ServedBooks day k last before asking p (serve n (k .places) n p)
+  served-books b = serve-keeps n (k .places) (ServedBooks day k last before asking p) grant-books n p b

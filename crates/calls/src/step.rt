@@ -37,9 +37,10 @@ use refusals::state::state_refusal;
 use serving::ends::answered;
 use serving::ends::finished;
 use serving::ends::no_sets;
-use survey::sets::put_marks;
 use ticks::interrupted;
 use ticks::ticked;
+use urgency::sets::nobody_turned;
+use urgency::sets::put_marks;
 
 // A call about task i and the locks: what refuses it, or what it does.
 fn done_to(mut k: State, i: usize, sort: Sort, h: Head, list: Numbers, r: Running) -> Stepped
@@ -67,7 +68,8 @@ fn done_to(mut k: State, i: usize, sort: Sort, h: Head, list: Numbers, r: Runnin
     let locks = c.locks;
     k.tasks[i] = task;
     k.locks = locks;
-    finished(k, put_marks(i, c.marks, no_sets()))
+    let turned = nobody_turned().with_turn(i, t, task);
+    finished(k, put_marks(i, c.marks, no_sets()), turned)
 }
 
 // The number of a reader's answer: 0, or the refusal's.

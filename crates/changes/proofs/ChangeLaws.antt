@@ -37,12 +37,13 @@ use Rattle.machine.proofs.Urgency.{Below, runner-below}
 use Rattle.machine.proofs.Passed.{unrefused}
 use Rattle.machine.proofs.Sorts.{given-waits}
 use Rattle.machine.proofs.WorkPairs.{no-wait-named, no-wait-runner}
-use Rattle.survey.specs.Looks.{putIf, putMarks, waitsOk}
+use Rattle.survey.specs.Looks.{waitsOk}
+use Rattle.urgency.specs.Puts.{putIf, putMarks}
 use Rattle.machine.specs.Sets.{only, mark, noSets, onlyIn}
 use Rattle.machine.specs.declared.Sets.{Sets}
 use Rattle.machine.proofs.SetLaws.{members-each, each-same}
 use Rattle.task.specs.declared.Marks.{Marks}
-use Rattle.serving.specs.Ends.{workHere}
+use Rattle.serving.specs.Ends.{asBefore, workHere}
 use Rattle.refusals.specs.Inner.{aboutOne, ticking}
 use Rattle.changes.specs.Inner.{Returnable}
 use Rattle.serving.proofs.AskLaws.{wait-begins}
@@ -168,7 +169,7 @@ module _ (day : ℕ) (k : State) (h : Head) (l : List ℕ) (v : valid day k ≡ 
         waits-changed k (sound day k v .waits) i (d .task) (d .locks)
         (rw done (waits-kept s (sym q) a (rw q (unrefused (h .mark) call (runner k) _ (k .locks) (k .now) z .runs))))
 
-    finish-change : finish (withChange k i d) (workHere (withChange k i d) (onlyIn i (d .marks))) ≡ finish k (changed k i d)
+    finish-change : finish (asBefore (k .tasks) (withChange k i d)) (workHere (withChange k i d) (onlyIn i (d .marks))) ≡ finish k (changed k i d)
     unfolding finish changed
     finish-change = refl
 
@@ -177,8 +178,8 @@ module _ (day : ℕ) (k : State) (h : Head) (l : List ℕ) (v : valid day k ≡ 
     called = ap declaring (sym q) ∙ undeclaring s a
 
     pub change-done : {e : Sets} → e ≡ noSets → {s : Sets} → s ≡ putMarks i (d .marks) e
-        → finish (withChange k i d) (workHere (withChange k i d) s) ≡ settle day k call
+        → finish (asBefore (k .tasks) (withChange k i d)) (workHere (withChange k i d) s) ≡ settle day k call
     change-done n m =
-        ap (λ x. finish (withChange k i d) (workHere (withChange k i d) x)) (m ∙ ap (putMarks i (d .marks)) n ∙ put-first i (d .marks)) ∙ finish-change
+        ap (λ x. finish (asBefore (k .tasks) (withChange k i d)) (workHere (withChange k i d) x)) (m ∙ ap (putMarks i (d .marks)) n ∙ put-first i (d .marks)) ∙ finish-change
         ∙ ap (λ x. finish k (changed k x d)) e ∙ ap (λ x. finish k (changed k (placeOf s h (runner k)) x)) done
         ∙ ap (finish k) (work-one s a) ∙ settled-call day k h l called z q

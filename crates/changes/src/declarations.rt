@@ -27,6 +27,7 @@ pub(crate) fn add_task(k: State, p: u8) -> State
     let counts = k.counts;
     let n = counts.tasks;
     next.tasks[n as usize] = fresh_task(p);
+    next.places[n as usize] = n;
     next.counts.tasks = n + 1;
     next
 }

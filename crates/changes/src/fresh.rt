@@ -64,6 +64,7 @@ pub fn fresh() -> State
     };
     State {
         tasks: [task; MOST_TASKS as usize],
+        places: [0; MOST_TASKS as usize],
         locks,
         enabled: [false; MOST_INTERRUPTS as usize],
         counts,

@@ -9,7 +9,7 @@ use native.Mathlib.Omega.{arith}
 use lib.Dec.{leb}
 use lib.ListN.{length, length-map, getD}
 use mir.Val.{Val}
-use mir.Syntax.{w16}
+use mir.Syntax.{w8, w16}
 use denote.Shadow.{shadow}
 use denote.Array.{each}
 use denote.RattleType.{owns, Valss}
@@ -24,7 +24,8 @@ use Rattle.lock.proofs.Bools.{contra}
 use Rattle.task.specs.declared.Task.{Task}
 use Rattle.task.proofs.Task as TaskT
 use Rattle.machine.specs.Invariants.{Tables}
-use Rattle.machine.specs.State.{mostTasks, taskAt}
+use Rattle.machine.specs.State.{mostTasks, taskAt, placeAt}
+use Rattle.machine.specs.Running.{mostPlaces}
 use Rattle.machine.specs.Sums.{allBelow}
 use Rattle.machine.specs.Test.{mostPriority}
 use Rattle.machine.specs.declared.State.{State}
@@ -69,9 +70,10 @@ module _ (k : State) (g : Owned k) where
   tables-long =
       record {
         tasks = sym (length-map (k .tasks) _) ∙ g .1 .0 .1 .0 .1;
-        semaphores = let l = g .1 .1 .0 .1 .1 .0 in sym (length-map (k .locks .semaphores) _) ∙ l .1 .0 .1;
-        bolts = let l = g .1 .1 .0 .1 .1 .1 .0 in sym (length-map (k .locks .bolts) _) ∙ l .1 .0 .1;
-        enabled = let l = g .1 .1 .1 .0 in sym (length-map (k .enabled) _) ∙ l .1 .0 .1;
+        places = let l = g .1 .1 .0 in sym (length-map (k .places) _) ∙ l .1 .0 .1;
+        semaphores = let l = g .1 .1 .1 .0 .1 .1 .0 in sym (length-map (k .locks .semaphores) _) ∙ l .1 .0 .1;
+        bolts = let l = g .1 .1 .1 .0 .1 .1 .1 .0 in sym (length-map (k .locks .bolts) _) ∙ l .1 .0 .1;
+        enabled = let l = g .1 .1 .1 .1 .0 in sym (length-map (k .enabled) _) ∙ l .1 .0 .1;
       }
 
   pub tasks-long : length (k .tasks) ≡ mostTasks
@@ -83,13 +85,16 @@ module _ (k : State) (g : Owned k) where
   pub given-small : (i : ℕ) → taskAt (k .tasks) i .given ≤ mostPriority
   given-small i = let h = givens-fit (k .tasks) (g .1 .0 .0) (g .1 .0 .1 .1) i in omega arith
 
+  pub place-fits : (i : ℕ) → placeAt (k .places) i < mostPlaces
+  place-fits i = let l = g .1 .1 .0 in elem-fits-field w8 w8 (k .places) (l .0) i (l .1 .1) tt .fits
+
   value-fits : (i : ℕ) → valueAt (k .locks) i < 65536
   value-fits i =
-      let l = g .1 .1 .0 .1 .1 .0 in
+      let l = g .1 .1 .1 .0 .1 .1 .0 in
       elem-fits-field w16 w16 (k .locks .semaphores) (l .0) i (l .1 .1) tt .fits
 
   bolt-fits : (i : ℕ) → boltAt (k .locks) i .readers < 65536
-  bolt-fits i = let l = g .1 .1 .0 .1 .1 .1 .0 in readers-fit (k .locks .bolts) (l .0) (l .1 .1) i
+  bolt-fits i = let l = g .1 .1 .1 .0 .1 .1 .1 .0 in readers-fit (k .locks .bolts) (l .0) (l .1 .1) i
 
   pub values-small : (n : ℕ) → allBelow n (λ i. leb (valueAt (k .locks) i) mostValue) ≡ true
   values-small n = all-from n _ (λ i l. le-leb (valueAt (k .locks) i) mostValue (omega (arith, value-fits i)))

@@ -12,7 +12,7 @@ use changes::fresh::fresh;
 use layout::Call;
 use layout::fields::bytes_of;
 use machine::Running;
-use survey::scan::running;
+use urgency::scan::running;
 
 impl Kernel {
     // Nothing is declared.

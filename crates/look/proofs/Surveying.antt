@@ -12,26 +12,31 @@ use Rattle.lock.proofs.Bools.{byBool}
 use Rattle.schedule.specs.Coming.{nextOf}
 use Rattle.task.specs.Coming.{delayEnd}
 use Rattle.task.specs.declared.Task.{Task}
-use Rattle.machine.specs.State.{mostTasks, taskAt}
+use Rattle.machine.specs.State.{mostTasks, taskAt, placeAt}
 use Rattle.machine.specs.NextEvent.{nextEvent}
-use Rattle.machine.specs.Running.{runningOf, runner}
+use Rattle.machine.specs.Running.{runningOf, runner, mostPlaces, urgency}
 use Rattle.machine.specs.Test.{valid}
 use Rattle.machine.specs.declared.State.{State}
 use Rattle.machine.specs.declared.Running.{Running}
-use Rattle.survey.specs.Leads.{noLead, Weighed, whose}
+use Rattle.urgency.specs.Leads.{noLead, Weighed, whose}
 use Rattle.survey.specs.Looks.{atEase, unfit, surveyed}
 use Rattle.survey.specs.Next.{momentOf}
-use Rattle.survey.specs.declared.scan.Lead.{Lead}
-use Rattle.survey.proofs.LeadLaws.{Led, canRun, led-none, led-more, led-passed}
+use Rattle.urgency.specs.declared.scan.Lead.{Lead}
+use Rattle.urgency.proofs.LeadLaws.{Led, canRun, led-none, led-more, led-passed}
 use Rattle.survey.proofs.NextLaws.{nextAmong, among-none, among-more, among-all}
 use Rattle.survey.proofs.TaskFit.{eased-runs, busy-rests}
 use Rattle.survey.proofs.TestLaws.{fitAt, Upto, upto-none, upto-passes}
+use Rattle.order.specs.Seen.{noneSeen, withPlace, seenBy}
+use Rattle.order.specs.declared.seen.Seen.{Seen}
+use native.Mathlib.Numerals.{add-one}
 
--- What the scan knows of the tasks below i: all are fit, when something next comes, and who leads of those that can run.
-pub record Looked (day : ℕ) (k : State) (i soonest : ℕ) (lead : Lead) : Type 0 where
+-- What the scan knows of the tasks below i: all are fit, when something next comes, the places, and who leads of those
+-- that can run.
+pub record Looked (day : ℕ) (k : State) (i soonest : ℕ) (seen : Seen) (lead : Lead) : Type 0 where
   pub tasks : Upto (fitAt day k) (k .counts .tasks) i
   pub comings : momentOf soonest ≡ nextAmong k i
-  pub leads : Led i (canRun (k .tasks)) (k .tasks) lead
+  pub places : seen ≡ seenBy i (k .places)
+  pub leads : Led i (canRun (k .tasks)) (urgency (k .places) (k .tasks)) lead
 
 -- One part of one task: m is what pends of it, and b what was found before.
 module _ (now : Instant) (m : Moment) {w : Moment} (b : ℕ) (e : momentOf b ≡ w) where
@@ -42,28 +47,33 @@ module _ (now : Instant) (m : Moment) {w : Moment} (b : ℕ) (e : momentOf b ≡
   sooner-same q f = rw (q, f, e)
 
 -- A task at ease is held against the lead if it lives, and one that isn't leaves the lead as it was.
-module _ (ts : List Task) (i : ℕ) {lead : Lead} (h : Led i (canRun ts) ts lead) where
+module _ (ps : List ℕ) (ts : List Task) (i : ℕ) {lead : Lead} (h : Led i (canRun ts) (urgency ps ts) lead) where
   pub led-eased : {r : Lead} → atEase (taskAt ts i .wait) (taskAt ts i .hold) ≡ true
-      → Weighed lead (taskAt ts i .alive) (mostTasks * taskAt ts i .current + i) i r → Led (i + 1) (canRun ts) ts r
-  led-eased e q = led-more (canRun ts) ts i (eased-runs (taskAt ts i) e) h q
+      → Weighed lead (taskAt ts i .alive) (mostPlaces * taskAt ts i .current + placeAt ps i) i r → Led (i + 1) (canRun ts) (urgency ps ts) r
+  unfolding urgency
+  led-eased e q = led-more (canRun ts) (urgency ps ts) i (eased-runs (taskAt ts i) e) h q
 
-  pub led-busy : atEase (taskAt ts i .wait) (taskAt ts i .hold) ≡ false → Led (i + 1) (canRun ts) ts lead
-  led-busy e = led-passed (canRun ts) ts i (busy-rests (taskAt ts i) e) h
+  pub led-busy : atEase (taskAt ts i .wait) (taskAt ts i .hold) ≡ false → Led (i + 1) (canRun ts) (urgency ps ts) lead
+  led-busy e = led-passed (canRun ts) (urgency ps ts) i (busy-rests (taskAt ts i) e) h
 
 module _ (day : ℕ) (k : State) where
-  pub looked-none : Looked day k 0 0 noLead
-  looked-none = record { tasks = upto-none _ _; comings = among-none k; leads = led-none _ _ refl }
+  pub looked-none : {seen : Seen} {lead : Lead} → seen ≡ noneSeen → lead ≡ noLead → Looked day k 0 0 seen lead
+  unfolding seenBy
+  looked-none e f = record { tasks = upto-none _ _; comings = among-none k; places = e; leads = led-none _ _ f }
 
-  module _ {i soonest : ℕ} {lead : Lead} (p : Looked day k i soonest lead) where
+  module _ {i soonest : ℕ} {seen : Seen} {lead : Lead} (p : Looked day k i soonest seen lead) where
     pub looked-next :
-        i < k .counts .tasks → (next : ℕ) {after : Lead} → fitAt day k i ≡ true
+        i < k .counts .tasks → (next : ℕ) {more : Seen} {after : Lead} → fitAt day k i ≡ true
         → momentOf next ≡ sooner (k .now) (delayEnd (taskAt (k .tasks) i .hold)) (sooner (k .now) (nextOf (taskAt (k .tasks) i .schedule .alarm)) (sooner (k .now) (nextOf (taskAt (k .tasks) i .continuation)) (momentOf soonest)))
-        → Led (i + 1) (canRun (k .tasks)) (k .tasks) after
-        → Looked day k (i + 1) next after
-    looked-next less next fits c a =
+        → more ≡ withPlace (placeAt (k .places) i) seen
+        → Led (i + 1) (canRun (k .tasks)) (urgency (k .places) (k .tasks)) after
+        → Looked day k (i + 1) next more after
+    unfolding seenBy
+    looked-next less next fits c s a =
         record {
           tasks = upto-passes (p .tasks) less fits;
           comings = among-more k i soonest next (p .comings) c;
+          places = rw (add-one, ← p .places) s;
           leads = a;
         }
 
@@ -73,6 +83,9 @@ module _ (day : ℕ) (k : State) where
 
       pub looked-event : momentOf soonest ≡ nextEvent k
       looked-event = p .comings ∙ rw last (among-all k)
+
+      pub looked-places : seen ≡ seenBy (k .counts .tasks) (k .places)
+      looked-places = p .places ∙ rw last
 
       pub looked-runs : whose lead ≡ runner k
       unfolding runningOf

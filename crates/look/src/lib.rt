@@ -11,6 +11,7 @@ use granting::no_writers;
 use granting::writers_of;
 use machine::Running;
 use machine::State;
+use order::seen::none_seen;
 use survey::Survey;
 use survey::check::are_counts_ok;
 use survey::check::are_priorities;
@@ -23,7 +24,7 @@ use survey::check::is_schedule_ok;
 use survey::next::moment_of;
 use survey::next::sooner_due;
 use survey::next::sooner_end;
-use survey::scan::no_lead;
+use urgency::scan::no_lead;
 
 // The survey of a kernel that fails the test.
 fn unfit() -> Survey
@@ -50,8 +51,11 @@ pub fn survey(k: State) -> Survey
     let locks = k.locks;
     let mut writers = no_writers();
     let mut soonest = 0;
+    let mut seen = none_seen();
     let mut lead = no_lead();
     for i in 0..n {
+        let place = k.places[i];
+        seen = seen.with(place);
         let current = k.tasks[i].current;
         if !are_priorities(k.tasks[i].declared, current) {
             return unfit();
@@ -104,7 +108,10 @@ pub fn survey(k: State) -> Survey
             soonest = sooner_end(soonest, now, hold);
             continue;
         }
-        lead = lead.against_if(k.tasks[i].alive, current, i);
+        lead = lead.against_if(k.tasks[i].alive, current, place, i);
+    }
+    if seen.are_wrong(n) {
+        return unfit();
     }
     Survey {
         ok: true,

@@ -45,15 +45,15 @@ same-grant : (t u : Task) → SameButWait t u → SameButWait t (waitOver u)
 same-grant t u h = (Nothing, ap waitOver (h .1))
 
 pub serving-keeps : ServingKeeps
-serving-keeps n turns p i =
-    serve-keeps n (λ q. SameButWait (taskAt (p .tasks) i) (taskAt (q .tasks) i))
+serving-keeps n ps turns p i =
+    serve-keeps n ps (λ q. SameButWait (taskAt (p .tasks) i) (taskAt (q .tasks) i))
     (λ q j l e h. byEq i j (λ z. rw (z, grant-at n q j e) (same-grant (taskAt (p .tasks) j) (taskAt (q .tasks) j) (rw z at h))) (λ z. rw (grant-other q j i z) h))
     turns p (same-refl (taskAt (p .tasks) i))
 
 -- So all but the waits is the work's.
 pub finish-keeps : (k : State) (w : Work) (i : ℕ) → SameButWait (taskAt (w .tasks) i) (taskAt (finish k w .state .tasks) i)
 unfolding finish
-finish-keeps k w i = serving-keeps (k .counts .tasks) (k .counts .tasks) _ i
+finish-keeps k w i = serving-keeps (k .counts .tasks) (k .places) (k .counts .tasks) _ i
 
 module _ (u v : Task) (h : SameButWait u v) where
   pub same-on : SameContinuation u v

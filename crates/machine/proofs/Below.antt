@@ -34,27 +34,28 @@ all-same (suc n) f g h = rw (all-same n f g (λ i l. h i (omega arith)), h n (om
 
 -- ---- the most urgent
 
--- What the scan finds by a number u: the smallest u, or nothing where none passes.
+-- What the scan finds by a number u: the smallest u, and the first that has it, or nothing where none passes.
 abbrev pub Found : ℕ → (ℕ → Bool) → (ℕ → ℕ) → Running → Type 0
 Found n test u Idle = (j : ℕ) → j < n → test j ≡ false
-Found n test u (Runs i) = (i < n) × (test i ≡ true) × ((j : ℕ) → j < n → test j ≡ true → u i ≤ u j)
+Found n test u (Runs i) =
+    (i < n) × (test i ≡ true) × ((j : ℕ) → j < n → test j ≡ true → u i ≤ u j) × ((j : ℕ) → j < i → test j ≡ true → u i < u j)
 
 module _ (n : ℕ) (test : ℕ → Bool) (u : ℕ → ℕ) where
   -- One more number, that doesn't pass.
   passed-over : (r : Running) → test n ≡ false → Found n test u r → Found (suc n) test u r
   passed-over Idle e f = λ j l. byEq j n (λ q. rw q e) (λ q. f j (omega arith))
   passed-over (Runs i) e f =
-      (omega arith, f .1, λ j l t. byEq j n (λ q. contra t (rw q e)) (λ q. f .2 j (omega arith) t))
+      (omega arith, f .1, λ j l t. byEq j n (λ q. contra t (rw q e)) (λ q. f .2 j (omega arith) t), f .3)
 
   -- One more number, that passes.
   weighed : (r : Running) → test n ≡ true → Found n test u r → Found (suc n) test u (better u r n)
-  weighed Idle e f = (omega arith, e, λ j l t. byEq j n (λ q. rw q (omega arith)) (λ q. contra t (f j (omega arith))))
+  weighed Idle e f = (omega arith, e, λ j l t. byEq j n (λ q. rw q (omega arith)) (λ q. contra t (f j (omega arith))), λ j l t. contra t (f j l))
   weighed (Runs i) e f =
       byBool (ltb (u n) (u i))
       (λ b. let lt = ltb-true (u n) (u i) b in rw b
-      (omega arith, e, λ j l t. byEq j n (λ q. rw q (omega arith)) (λ q. let h = f .2 j (omega arith) t in omega arith)))
+      (omega arith, e, λ j l t. byEq j n (λ q. rw q (omega arith)) (λ q. let h = f .2 j (omega arith) t in omega arith), λ j l t. let h = f .2 j l t in omega arith))
       (λ b. let le = ltb-false (u n) (u i) b in rw b
-      (omega arith, f .1, λ j l t. byEq j n (λ q. rw q le) (λ q. f .2 j (omega arith) t)))
+      (omega arith, f .1, λ j l t. byEq j n (λ q. rw q le) (λ q. f .2 j (omega arith) t), f .3))
 
 pub scan-finds : (n : ℕ) (test : ℕ → Bool) (u : ℕ → ℕ) → Found n test u (mostUrgent n test u)
 unfolding mostUrgent

@@ -17,7 +17,7 @@ use Rattle.task.specs.State.{noTask}
 use Rattle.task.specs.declared.Task.{Task}
 use Rattle.machine.specs.declared.Counts.{Counts}
 use Rattle.machine.specs.declared.State.{State}
-use Rattle.machine.specs.State.{mostTasks, mostSemaphores, mostBolts, mostInterrupts, freshTask, withState, withClock}
+use Rattle.machine.specs.State.{mostTasks, mostSemaphores, mostBolts, mostInterrupts, freshTask, withState, withClock, withPlaces}
 use Rattle.machine.specs.Running.{runner}
 use Rattle.machine.specs.Sorts.{sortOf, declares}
 use Rattle.machine.specs.Work.{Work}
@@ -35,37 +35,45 @@ use Rattle.machine.proofs.Cases.{opened-cases, carried-by, stepOpened, 
 use Rattle.machine.proofs.Looks.{running-same, valid-same, runner-same, refusal-same}
 use Rattle.machine.proofs.Pairs.{Pair, serve-pair}
 use Rattle.machine.proofs.WorkPairs.{WorkPair, work-pair}
+use Rattle.machine.specs.Places.{event, moved}
+use Rattle.machine.proofs.Places.{moved-like}
+use native.Mathlib.Omega.{arith}
 
 -- Two kernels with the same counts agree where their tables are alike.
-pub alike-agree : (k : State) (ts : List Task) (r : Locks) (is : List Bool) → Like noTask mostTasks (k .counts .tasks) (k .tasks) ts
+pub alike-agree : (k : State) (ts : List Task) (ps : List ℕ) (r : Locks) (is : List Bool) → Like noTask mostTasks (k .counts .tasks) (k .tasks) ts
+    → Like 0 mostTasks (k .counts .tasks) (k .places) ps
     → Alike mostSemaphores mostBolts (k .counts .semaphores) (k .counts .bolts) (k .locks) r
-    → Like false mostInterrupts (k .counts .interrupts) (k .enabled) is → Agree k (withState ts r is k)
-alike-agree k ts r is a b c =
+    → Like false mostInterrupts (k .counts .interrupts) (k .enabled) is → Agree k (withPlaces ps (withState ts r is k))
+alike-agree k ts ps r is a s b c =
     record {
       counts = refl;
       clock = refl;
       now = refl;
       begun = refl;
       tasks = a .below;
+      places = s .below;
       semaphores = b .semaphores .below;
       bolts = b .bolts .below;
       enabled = c .below;
-      tables = record { tasks = a .long; semaphores = b .semaphores .long; bolts = b .bolts .long; enabled = c .long };
-      tables′ = record { tasks = a .long′; semaphores = b .semaphores .long′; bolts = b .bolts .long′; enabled = c .long′ };
+      tables = record { tasks = a .long; places = s .long; semaphores = b .semaphores .long; bolts = b .bolts .long; enabled = c .long };
+      tables′ = record { tasks = a .long′; places = s .long′; semaphores = b .semaphores .long′; bolts = b .bolts .long′; enabled = c .long′ };
     }
 
 abbrev served : Work → Served
 served w = record { tasks = w .tasks; locks = w .locks; granted = w .sets .granted }
 
-module _ (day : ℕ) (k : State) (ts : List Task) (r : Locks) (is : List Bool) (a : Agree k (withState ts r is k)) where
+module _ (day : ℕ) (k : State) (ts : List Task) (ps : List ℕ) (r : Locks) (is : List Bool) (a : Agree k (withPlaces ps (withState ts r is k))) where
   abbrev n : Counts
   n = k .counts
 
   abbrev k′ : State
-  k′ = withState ts r is k
+  k′ = withPlaces ps (withState ts r is k)
 
   tasks : Like noTask mostTasks (n .tasks) (k .tasks) ts
   tasks = record { long = a .tables .tasks; long′ = a .tables′ .tasks; below = a .tasks }
+
+  places : Like 0 mostTasks (n .tasks) (k .places) ps
+  places = record { long = a .tables .places; long′ = a .tables′ .places; below = a .places }
 
   locks : Alike mostSemaphores mostBolts (n .semaphores) (n .bolts) (k .locks) r
   locks =
@@ -81,7 +89,7 @@ module _ (day : ℕ) (k : State) (ts : List Task) (r : Locks) (is : List Bool) (
   sees = record { values = a .semaphores; bolts = a .bolts }
 
   same-runner : runner k ≡ runner k′
-  same-runner = runner-same k ts r is (a .tasks) sees
+  same-runner = runner-same k ts ps r is (a .tasks) (a .places) sees
 
   refuse-match : (m : ℕ) → Match (refuse k m (runner k)) (refuse k′ m (runner k′))
   unfolding refuse
@@ -93,43 +101,48 @@ module _ (day : ℕ) (k : State) (ts : List Task) (r : Locks) (is : List Bool) (
 
   module _ (f : Fits n) where
     finish-match : (w w′ : Work) → WorkPair n w w′ → Match (finish k w) (finish k′ w′)
-    unfolding finish
+    unfolding finish event
     finish-match w w′ q =
-        let z = serve (n .tasks) (n .tasks) (served w) in
-        let z′ = serve (n .tasks) (n .tasks) (served w′) in
-        let (p, g) = serve-pair n f (n .tasks) (served w) (served w′) (q .pair, ap (λ (s : Sets). s .granted) (q .sets)) in
-        let e = running-same n (z .tasks) (z′ .tasks) (p .tasks .below) in
+        let z = serve (n .tasks) (k .places) (n .tasks) (served w) in
+        let z′ = serve (n .tasks) ps (n .tasks) (served w′) in
+        let (p, g) = serve-pair n f (k .places) ps (a .places) (n .tasks) (served w) (served w′) (q .pair, ap (λ (s : Sets). s .granted) (q .sets)) in
+        let o = event (k .tasks) (z .tasks) (w .sets .started) in
+        let o′ = event ts (z′ .tasks) (w′ .sets .started) in
+        let m = moved-like mostTasks (n .tasks) (f .tasks) o o′ (k .places) ps places (n .tasks) (omega arith) (λ i l. rw (a .tasks i l, p .tasks .below i l, q .sets)) in
+        let e = running-same n (z .tasks) (z′ .tasks) (p .tasks .below) (moved (n .tasks) o (k .places)) (moved (n .tasks) o′ ps) (m .below) in
         record {
           answer = λ i. record {
             number = 0;
             running = e i;
             sets = withGranted (g i) (q .sets i);
           };
-          state = rw (← q .now) (alike-agree (finish k w .state) _ _ _ (p .tasks) (p .locks) (q .enabled));
+          state = rw (← q .now) (alike-agree (finish k w .state) _ _ _ _ (p .tasks) m (p .locks) (q .enabled));
         }
 
     -- ---- declarations
 
     add-task : (p : ℕ) → n .tasks < mostTasks → Agree (addTask p k) (addTask p k′)
     unfolding addTask
-    add-task p l = alike-agree (addTask p k) _ _ _ (like-add noTask mostTasks (n .tasks) (k .tasks) ts tasks l (freshTask p)) locks ints
+    add-task p l =
+        alike-agree (addTask p k) _ _ _ _ (like-add noTask mostTasks (n .tasks) (k .tasks) ts tasks l (freshTask p))
+        (like-add 0 mostTasks (n .tasks) (k .places) ps places l (n .tasks)) locks ints
 
     add-semaphore : (v : ℕ) → n .semaphores < mostSemaphores → Agree (addSemaphore v k) (addSemaphore v k′)
     unfolding addSemaphore
     add-semaphore v l =
-        alike-agree (addSemaphore v k) _ _ _ tasks
+        alike-agree (addSemaphore v k) _ _ _ _ tasks places
         (record { semaphores = like-add 0 mostSemaphores (n .semaphores) (k .locks .semaphores) (r .semaphores) (locks .semaphores) l v; bolts = locks .bolts }) ints
 
     add-bolt : n .bolts < mostBolts → Agree (addBolt k) (addBolt k′)
     unfolding addBolt
     add-bolt l =
-        alike-agree (addBolt k) _ _ _ tasks
+        alike-agree (addBolt k) _ _ _ _ tasks places
         (record { semaphores = locks .semaphores; bolts = like-add emptyBolt mostBolts (n .bolts) (k .locks .bolts) (r .bolts) (locks .bolts) l emptyBolt }) ints
 
     add-interrupt : n .interrupts < mostInterrupts → Agree (addInterrupt k) (addInterrupt k′)
     unfolding addInterrupt
     add-interrupt l =
-        alike-agree (addInterrupt k) _ _ _ tasks locks (like-add false mostInterrupts (n .interrupts) (k .enabled) is ints l false)
+        alike-agree (addInterrupt k) _ _ _ _ tasks places locks (like-add false mostInterrupts (n .interrupts) (k .enabled) is ints l false)
 
     -- ---- accepted records
 
@@ -144,7 +157,7 @@ module _ (day : ℕ) (k : State) (ts : List Task) (r : Locks) (is : List Bool) (
           (λ e. rw e (byBool (bears m DS) (λ e. rw e (add-semaphore _ (room-semaphore n (rw (is-mark m DS e) at o))))
           (λ e. rw e (byBool (bears m DB) (λ e. rw e (add-bolt (room-bolt n (rw (is-mark m DB e) at o))))
           (λ e. rw e (byBool (bears m IT) (λ e. rw e (add-interrupt (room-interrupt n (rw (is-mark m IT e) at o))))
-          (λ e. rw e (byBool (bears m DC) (λ e. rw e (alike-agree (withClock (c .head .first) k) ts r is tasks locks ints)) (λ e. rw e a)))))))))
+          (λ e. rw e (byBool (bears m DC) (λ e. rw e (alike-agree (withClock (c .head .first) k) ts ps r is tasks places locks ints)) (λ e. rw e a)))))))))
 
       out-match : (c : Call) → Passed day (c .head .mark) k c → Match (carryOut day k c) (carryOut day k′ c)
       unfolding carryOut
@@ -152,10 +165,10 @@ module _ (day : ℕ) (k : State) (ts : List Task) (r : Locks) (is : List Bool) (
           let u = unrefused (c .head .mark) c (runner k) _ (k .locks) (k .now) (p .state) in
           byBool (declares (c .head .mark))
           (λ e. rw e (declared-match _ _ (declaration-match (c .head .mark) c (p .formal .room))))
-          (λ e. rw e (finish-match _ _ (work-pair k ts r is f pair ints day c (sortOf (c .head .mark)) (p .formal .known) (u .runs))))
+          (λ e. rw e (finish-match _ _ (work-pair k ts ps r is f pair (a .places) ints day c (sortOf (c .head .mark)) (p .formal .known) (u .runs))))
 
       on-match : (c : Call) → Match (carryOn day k c) (carryOn day k′ c)
-      on-match c = rw (carried-by day k c, carried-by day k′ c, ← refusal-same k ts r is (a .tasks) sees day c) (go (refusalOf day k c) refl)
+      on-match c = rw (carried-by day k c, carried-by day k′ c, ← refusal-same k ts ps r is (a .tasks) (a .places) sees day c) (go (refusalOf day k c) refl)
         where
           go : (m : ℕ) → refusalOf day k c ≡ m → Match (orRefuse k m (carryOut day k c)) (orRefuse k′ m (carryOut day k′ c))
           go zero e = out-match c (passed day k c e)
@@ -164,7 +177,7 @@ module _ (day : ℕ) (k : State) (ts : List Task) (r : Locks) (is : List Bool) (
   step-match : (s : List ℕ) → Match (step day k s) (step day k′ s)
   unfolding step
   step-match s =
-      rw (← valid-same k ts r is (a .tasks) sees day, read-opened day k s, read-opened day k′ s)
+      rw (← valid-same k ts ps r is (a .tasks) (a .places) sees day, read-opened day k s, read-opened day k′ s)
       (byBool (valid day k)
       (λ v. let t = tested day k v in rw v
       (opened-cases s (λ o. Match (stepOpened day k (o .answer) (o .list)) (stepOpened day k′ (o .answer) (o .list))) (refuse-match 2) (on-match (t .fits) t)))
@@ -173,8 +186,9 @@ module _ (day : ℕ) (k : State) (ts : List Task) (r : Locks) (is : List Bool) (
 -- A kernel that agrees with k is k with other tables.
 pub steps-agree : StepsAgree
 steps-agree day k k′ a s =
-    let e : withState (k′ .tasks) (k′ .locks) (k′ .enabled) k ≡ k′ = λ i. record {
+    let e : withPlaces (k′ .places) (withState (k′ .tasks) (k′ .locks) (k′ .enabled) k) ≡ k′ = λ i. record {
       tasks = k′ .tasks;
+      places = k′ .places;
       locks = k′ .locks;
       enabled = k′ .enabled;
       counts = a .counts i;
@@ -183,7 +197,7 @@ steps-agree day k k′ a s =
       begun = a .begun i;
     } in
     subst (λ (z : State). Match (step day k s) (step day z s)) e
-    (step-match day k (k′ .tasks) (k′ .locks) (k′ .enabled) (subst (λ (z : State). Agree k z) (sym e) a) s)
+    (step-match day k (k′ .tasks) (k′ .places) (k′ .locks) (k′ .enabled) (subst (λ (z : State). Agree k z) (sym e) a) s)
 
 pub logs-agree : LogsAgree
 unfolding log

@@ -21,8 +21,9 @@ use Rattle.machine.specs.Granting.{unopposed, available, couldBeGranted}
 use Rattle.machine.specs.Sorts.{declares}
 use Rattle.machine.specs.Work.{changed, onlyEnabled, everyTurn}
 use Rattle.machine.specs.Serving.{grantTo, serve}
+use Rattle.machine.specs.Places.{event, toEnd, movedBelow}
 use Rattle.machine.specs.Sums.{allBelow}
-use Rattle.machine.specs.Test.{alarmOk, scheduleOk, continuationOk, taskOk, countsOk, nobodyServable, valid}
+use Rattle.machine.specs.Test.{alarmOk, scheduleOk, continuationOk, taskOk, countsOk, placesOk, nobodyServable, valid}
 use Rattle.machine.specs.Refusals.{declaredBy, roomFor, formalRefusal, admittedIf, refusalBy}
 use Rattle.machine.specs.Activation.{scheduleOf, activateTurn, goOnTurn, resumeBy}
 use Rattle.machine.specs.Calls.{addTask, addSemaphore, addBolt, addInterrupt, declaration, namedTurn, runnerTurn, asks, changeOf, trigger, interruptBy, tick, workBy}
@@ -31,5 +32,5 @@ use Rattle.machine.specs.Log.{final, log}
 use Rattle.machine.specs.Marked.{answers}
 
 unfoldable pub computed : List (List ℕ) → List Answer
-unfolding timeOfDay until firstDue lastAllowed allowed nextDue among headOf listOf bytesOf allZero names distinct uses cleanNames cleanStart ranged formed listed endTimed firstTimed startTimed resumeTimed timed shape times opened level canMove moveOne every forEach alarmOf advance lastOf dueIf endIf preventTurn suspendTurn continueTurn resumeTurn spent continued continueAt calledBy wake fallTurn startTurn has setOf freshTask nothing urgency mostUrgent runningOf unopposed available couldBeGranted changed onlyEnabled everyTurn grantTo serve alarmOk scheduleOk continuationOk taskOk allBelow countsOk nobodyServable valid declares declaredBy roomFor formalRefusal admittedIf refusalBy addTask addSemaphore addBolt addInterrupt declaration scheduleOf activateTurn goOnTurn resumeBy namedTurn runnerTurn asks changeOf trigger interruptBy tick workBy refuse finish declared carryOut settle step final log
+unfolding timeOfDay until firstDue lastAllowed allowed nextDue among headOf listOf bytesOf allZero names distinct uses cleanNames cleanStart ranged formed listed endTimed firstTimed startTimed resumeTimed timed shape times opened level canMove moveOne every forEach alarmOf advance lastOf dueIf endIf preventTurn suspendTurn continueTurn resumeTurn spent continued continueAt calledBy wake fallTurn startTurn has setOf freshTask nothing urgency mostUrgent runningOf unopposed available couldBeGranted changed onlyEnabled everyTurn grantTo serve event toEnd movedBelow alarmOk scheduleOk continuationOk taskOk allBelow countsOk placesOk nobodyServable valid declares declaredBy roomFor formalRefusal admittedIf refusalBy addTask addSemaphore addBolt addInterrupt declaration scheduleOf activateTurn goOnTurn resumeBy namedTurn runnerTurn asks changeOf trigger interruptBy tick workBy refuse finish declared carryOut settle step final log
 computed rs = answers rs

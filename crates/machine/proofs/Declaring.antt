@@ -30,6 +30,7 @@ use Rattle.machine.specs.Granting.{unopposed, available, servable}
 use Rattle.machine.specs.Test.{isPriority, scheduleOk, continuationOk}
 use Rattle.machine.proofs.Granting.{could-alike, unopposed-more}
 use Rattle.machine.specs.Calls.{addTask, addSemaphore, addBolt, addInterrupt}
+use Rattle.machine.proofs.Places.{added-apart}
 use Rattle.machine.proofs.Passed.{Passed, Fits, room-task, room-semaphore, room-bolt, room-interrupt}
 use Rattle.machine.proofs.Facts.{TaskOk, Bounded, bounded-of, StateOk}
 use Rattle.machine.proofs.Looks.{count-below}
@@ -128,6 +129,7 @@ module _ (day : ℕ) (k : State) (h : StateOk day k) (c : Call) where
         tables =
             record {
               tasks = length-set (k .tasks) n (freshTask q) ∙ h .tables .tasks;
+              places = length-set (k .places) n n ∙ h .tables .places;
               semaphores = h .tables .semaphores;
               bolts = h .tables .bolts;
               enabled = h .tables .enabled;
@@ -138,6 +140,7 @@ module _ (day : ℕ) (k : State) (h : StateOk day k) (c : Call) where
         bounded = bounded-of _ (k .locks) values-stay readers-stay;
         tasks-ok = λ i l. byEq i n (λ z. rw (z, at-new) (fresh-ok day _ q (priority-DT b p)))
             (λ z. rw (getD-set-other (k .tasks) n i (freshTask q) noTask z) (task-more day (k .counts) _ _ (record { semaphores = omega arith; bolts = omega arith; interrupts = omega arith }) (h .tasks-ok i (omega arith))));
+        places-ok = added-apart n (k .places) (h .places-ok) (omega (arith, h .tables .places));
         stuck = λ i l. byEq i n (λ z. rw (z, at-new, fresh-unwaiting q))
             (λ z. stuck-stays day k h (n + 1) (set (k .tasks) n (freshTask q)) (k .locks) i (getD-set-other (k .tasks) n i (freshTask q) noTask z) (λ w y o. refl)
             (λ u y. unopposed-more n (k .tasks) _ u y (λ j o. getD-set-other (k .tasks) n j (freshTask q) noTask (λ z. omega arith)) (rw (at-new) (fresh-unwaiting q))) (omega arith));
@@ -148,12 +151,13 @@ module _ (day : ℕ) (k : State) (h : StateOk day k) (c : Call) where
       → Bounded m r → ((w : Wait) (y : ℕ) → y < countOf (k .counts) w → free w r y ≡ free w (k .locks) y) → StateOk day (withCounts m (withState (k .tasks) r es k))
   added m r es e o q s g b f =
       record {
-        tables = record { tasks = h .tables .tasks; semaphores = s .semaphores ∙ h .tables .semaphores; bolts = s .bolts ∙ h .tables .bolts; enabled = g ∙ h .tables .enabled };
+        tables = record { tasks = h .tables .tasks; places = h .tables .places; semaphores = s .semaphores ∙ h .tables .semaphores; bolts = s .bolts ∙ h .tables .bolts; enabled = g ∙ h .tables .enabled };
         now-ok = h .now-ok;
         clock-ok = h .clock-ok;
         counts-ok = o;
         bounded = b;
         tasks-ok = λ i l. task-more day (k .counts) m _ q (h .tasks-ok i (rw e at l));
+        places-ok = rw e (h .places-ok);
         stuck = λ i l. stuck-stays day k h (m .tasks) (k .tasks) r i refl f (λ u y. rw e) (rw e at l);
       }
 
@@ -205,11 +209,12 @@ module _ (day : ℕ) (k : State) (h : StateOk day k) (c : Call) where
   unfolding timed
   clock-set p =
       record {
-        tables = record { tasks = h .tables .tasks; semaphores = h .tables .semaphores; bolts = h .tables .bolts; enabled = h .tables .enabled };
+        tables = record { tasks = h .tables .tasks; places = h .tables .places; semaphores = h .tables .semaphores; bolts = h .tables .bolts; enabled = h .tables .enabled };
         now-ok = h .now-ok;
         clock-ok = ltb-true _ _ (p .formal .timed);
         counts-ok = h .counts-ok;
         bounded = h .bounded;
         tasks-ok = h .tasks-ok;
+        places-ok = h .places-ok;
         stuck = h .stuck;
       }

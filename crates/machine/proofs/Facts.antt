@@ -25,6 +25,7 @@ use Rattle.machine.specs.Granting.{servable}
 use Rattle.machine.specs.Test.{between, isPriority, keptOk, holdOk, scheduleOk, continuationOk, waitOk, taskOk, countsOk, nobodyServable, valid}
 use Rattle.machine.specs.Invariants.{Tables, Passes}
 use Rattle.machine.proofs.Below.{all-at, all-from}
+use Rattle.machine.proofs.Places.{Apart, apart-of, places-test}
 use Rattle.machine.proofs.Passed.{Fits, counts-fit, parts}
 
 -- A wait's list: one to four numbers, none twice, all declared.
@@ -53,6 +54,7 @@ pub record StateOk (day : ℕ) (k : State) : Type 0 where
   pub counts-ok : Fits (k .counts)
   pub bounded : Bounded (k .counts) (k .locks)
   pub tasks-ok : (i : ℕ) → i < k .counts .tasks → TaskOk day (k .counts) (taskAt (k .tasks) i)
+  pub places-ok : Apart (k .counts .tasks) (k .places)
   pub stuck : (i : ℕ) → i < k .counts .tasks → servable (k .counts .tasks) (k .tasks) (k .locks) i ≡ false
 
 -- ---- from the facts to the test
@@ -80,10 +82,11 @@ passes-of-ok day k h =
     record {
       tables = h .tables;
       tested =
-          and-both (and-both (and-both (and-both (and-both (and-both (le-leb _ _ (h .now-ok)) (lt-ltb _ _ (h .clock-ok))) (counts-test (k .counts) (h .counts-ok)))
+          and-both (and-both (and-both (and-both (and-both (and-both (and-both (le-leb _ _ (h .now-ok)) (lt-ltb _ _ (h .clock-ok))) (counts-test (k .counts) (h .counts-ok)))
           (all-from (k .counts .semaphores) _ (λ s l. le-leb _ _ (h .bounded Request s l))))
           (all-from (k .counts .bolts) _ (λ b l. le-leb _ _ (h .bounded Enter b l))))
           (all-from (k .counts .tasks) _ (λ i l. task-test day (k .counts) (taskAt (k .tasks) i) (h .tasks-ok i l))))
+          (places-test (k .counts .tasks) (k .places) (h .places-ok)))
           (nobody-test k (h .stuck));
     }
 
@@ -141,6 +144,7 @@ ok-of-passes day k p =
           (λ s l. leb-true _ _ (all-at (k .counts .semaphores) (λ (s : ℕ). leb (valueAt (k .locks) s) mostValue) (q .values) s l))
           (λ x l. leb-true _ _ (all-at (k .counts .bolts) (λ (b : ℕ). leb (boltAt (k .locks) b .readers) mostValue) (q .readers) x l));
       tasks-ok = λ i l. task-untest day (k .counts) (taskAt (k .tasks) i) (all-at (k .counts .tasks) _ (q .tasks) i l);
+      places-ok = apart-of (k .counts .tasks) (k .places) (q .places);
       stuck = nobody-untest k (q .stuck);
     }
 

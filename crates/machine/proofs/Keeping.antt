@@ -29,6 +29,7 @@ use Rattle.machine.proofs.Facts.{Listed, TaskOk, Bounded, StateOk, prop
 use Rattle.machine.proofs.Works.{oneTurn, onlyLocks, turn-at, every-length}
 use Rattle.machine.proofs.Done.{Role, Did, turned, everyone, quiet, gave, got, waits, tried, runs}
 use Rattle.machine.proofs.Serving.{ServedOk, grant-ok, serve-keeps, serving-ends}
+use Rattle.machine.proofs.Places.{moved-size, moved-apart}
 
 -- A work that serving may start from.
 pub record WorkOk (day : ℕ) (k : State) (w : Work) : Type 0 where
@@ -105,11 +106,12 @@ module _ (day : ℕ) (k : State) (h : StateOk day k) where
   unfolding finish
   finish-ok w a =
       let n = k .counts .tasks in
-      let s = serve-keeps n (ServedOk day k) (grant-ok day k h) n (unserved w) (unserved-ok w a) in
+      let s = serve-keeps n (k .places) (ServedOk day k) (grant-ok day k h) n (unserved w) (unserved-ok w a) in
       record {
         tables =
             record {
               tasks = s .tasks-size ∙ h .tables .tasks;
+              places = moved-size n _ n (k .places) ∙ h .tables .places;
               semaphores = s .locks-size .semaphores ∙ h .tables .semaphores;
               bolts = s .locks-size .bolts ∙ h .tables .bolts;
               enabled = a .enabled-size ∙ h .tables .enabled;
@@ -119,5 +121,6 @@ module _ (day : ℕ) (k : State) (h : StateOk day k) where
         counts-ok = h .counts-ok;
         bounded = s .bounded;
         tasks-ok = s .tasks-ok;
-        stuck = serving-ends n (unserved w);
+        places-ok = moved-apart n _ (k .places) (h .places-ok) (omega (arith, h .tables .places, h .counts-ok .tasks));
+        stuck = serving-ends n (k .places) (unserved w);
       }

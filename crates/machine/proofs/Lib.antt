@@ -1,6 +1,7 @@
 -- Laws of the machine's definitions.
 pub mod SetLaws
 pub mod Below
+pub mod Places
 pub mod Urgency
 pub mod Passed
 pub mod Sorts
@@ -38,6 +39,7 @@ pub mod Unholding
 pub mod Sorted
 pub mod Helping
 pub mod OnePass
+pub mod Taking
 -- Proofs of the marked cases.
 pub mod Computing
 pub mod Waits
@@ -46,3 +48,4 @@ pub mod Marked
 pub mod Slips
 pub mod Continued
 pub mod Writers
+pub mod TurnCases

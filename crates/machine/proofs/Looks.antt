@@ -3,7 +3,8 @@ use mathlib.Core.Path.{_≡_, refl, ap, _∙_}
 use mathlib.Core.Bool.{Bool, true, false, not, _&&_, _||_}
 use mathlib.Core.List.{List}
 use Prim.Native.Nat.{ℕ, zero, suc, _<_}
-use lib.Dec.{leb, ltb}
+use native.Mathlib.Omega.{arith}
+use lib.Dec.{leb, ltb, eqb}
 use borrow.Author.Tests.{ltb-true}
 use Rattle.calendar.specs.Limits.{lastInstant, isTimeOfDay}
 use Rattle.calendar.specs.declared.Instant.{Instant}
@@ -27,11 +28,11 @@ use Rattle.machine.specs.declared.State.{State}
 use Rattle.machine.specs.declared.Running.{Running}
 use Rattle.machine.specs.declared.Sort.{Sort}
 use Rattle.machine.specs.declared.Sort.the-variants.{Declaration, OneTask, TheRunner, ListAsked, ListGiven, AnInterrupt, EveryTask}
-use Rattle.machine.specs.State.{taskAt, countOf, withState}
+use Rattle.machine.specs.State.{taskAt, countOf, withState, placeAt, withPlaces}
 use Rattle.machine.specs.Running.{urgency, runningOf, runner}
 use Rattle.machine.specs.Granting.{available, couldBeGranted, servable}
 use Rattle.machine.specs.Sums.{allBelow}
-use Rattle.machine.specs.Test.{taskOk, countsOk, nobodyServable, valid}
+use Rattle.machine.specs.Test.{taskOk, countsOk, nobodyServable, valid, placesOk}
 use Rattle.machine.specs.Sorts.{sortOf, givenKind, naming, runnerAt, placeOf}
 use Rattle.machine.specs.Refusals.{listDeclared, declaredBy, declaredIn, formalRefusal, refusalBy, stateRefusal}
 use Rattle.machine.proofs.Urgency.{scan-same}
@@ -55,13 +56,14 @@ before-then zero m m′ h = h refl
 before-then (suc n) m m′ h = refl
 
 module _ (n : Counts) (ts ts′ : List Task) (same : (i : ℕ) → i < n .tasks → taskAt ts i ≡ taskAt ts′ i) where
-  pub urgency-same : (i : ℕ) → i < n .tasks → urgency ts i ≡ urgency ts′ i
-  unfolding urgency
-  urgency-same i l = rw (same i l)
+  module _ (ps ps′ : List ℕ) (stand : (i : ℕ) → i < n .tasks → placeAt ps i ≡ placeAt ps′ i) where
+    pub urgency-same : (i : ℕ) → i < n .tasks → urgency ps ts i ≡ urgency ps′ ts′ i
+    unfolding urgency
+    urgency-same i l = rw (same i l, stand i l)
 
-  pub running-same : runningOf (n .tasks) ts ≡ runningOf (n .tasks) ts′
-  unfolding runningOf
-  running-same = scan-same (n .tasks) _ _ _ _ (λ i l. rw (same i l)) urgency-same
+    pub running-same : runningOf (n .tasks) ps ts ≡ runningOf (n .tasks) ps′ ts′
+    unfolding runningOf
+    running-same = scan-same (n .tasks) _ _ _ _ (λ i l. rw (same i l)) urgency-same
 
   module _ (r r′ : Locks) (seen : Seen (n .semaphores) (n .bolts) r r′) where
     pub moves-same : (way : Way) (w : Wait) (l : List ℕ) → every (λ x. ltb x (countOf n w)) l ≡ true → canMoveAll way w r l ≡ canMoveAll way w r′ l
@@ -80,7 +82,7 @@ module _ (n : Counts) (ts ts′ : List Task) (same : (i : ℕ) → i < n .tasks 
         let t = taskAt ts i in
         rw (← same i l) (and-then (waiting (t .wait)) _ _ (λ w. could-same (t .current) (t .wait) (wanted t) (h w)))
 
--- ---- the test of a kernel, in three parts
+-- ---- the test of a kernel, in four parts
 
 abbrev limitsOk : ℕ → State → Bool
 limitsOk day k =
@@ -93,7 +95,7 @@ limitsOk day k =
 abbrev tasksOk : ℕ → State → Bool
 tasksOk day k = allBelow (k .counts .tasks) (λ i. taskOk day (k .counts) (taskAt (k .tasks) i))
 
-in-parts : (day : ℕ) (k : State) → valid day k ≡ (limitsOk day k && tasksOk day k && nobodyServable k)
+in-parts : (day : ℕ) (k : State) → valid day k ≡ (limitsOk day k && tasksOk day k && placesOk (k .counts .tasks) (k .places) && nobodyServable k)
 unfolding valid
 in-parts day k = refl
 
@@ -104,11 +106,12 @@ unlooked m c x l n e t t′ = rw (other-mark naming m AC refl e, other-mark nami
 
 -- ---- a kernel and one with other tables
 
-module _ (k : State) (ts : List Task) (r : Locks) (is : List Bool)
+module _ (k : State) (ts : List Task) (ps : List ℕ) (r : Locks) (is : List Bool)
     (same : (i : ℕ) → i < k .counts .tasks → taskAt (k .tasks) i ≡ taskAt ts i)
+    (stand : (i : ℕ) → i < k .counts .tasks → placeAt (k .places) i ≡ placeAt ps i)
     (seen : Seen (k .counts .semaphores) (k .counts .bolts) (k .locks) r) where
   abbrev k′ : State
-  k′ = withState ts r is k
+  k′ = withPlaces ps (withState ts r is k)
 
   limits-same : (day : ℕ) → limitsOk day k ≡ limitsOk day k′
   limits-same day =
@@ -120,6 +123,12 @@ module _ (k : State) (ts : List Task) (r : Locks) (is : List Bool)
   tasks-same : (day : ℕ) → tasksOk day k ≡ tasksOk day k′
   tasks-same day = all-same (k .counts .tasks) _ _ (λ i l. rw (same i l))
 
+  places-same : placesOk (k .counts .tasks) (k .places) ≡ placesOk (k .counts .tasks) ps
+  unfolding placesOk
+  places-same =
+      all-same (k .counts .tasks) _ _
+      (λ i l. rw (stand i l, all-same i (λ j. not (eqb (placeAt (k .places) j) (placeAt ps i))) (λ j. not (eqb (placeAt ps j) (placeAt ps i))) (λ j m. rw (stand j (omega arith)))))
+
   nobody-same : ((i : ℕ) → i < k .counts .tasks → Listed (k .counts) (taskAt (k .tasks) i)) → nobodyServable k ≡ nobodyServable k′
   unfolding nobodyServable
   nobody-same h =
@@ -127,13 +136,14 @@ module _ (k : State) (ts : List Task) (r : Locks) (is : List Bool)
 
   pub valid-same : (day : ℕ) → valid day k ≡ valid day k′
   valid-same day =
-      rw (in-parts day k, in-parts day k′, ← limits-same day, ← tasks-same day)
-      (and-then (limitsOk day k && tasksOk day k) (nobodyServable k) (nobodyServable k′)
+      let places = placesOk (k .counts .tasks) (k .places) in
+      rw (in-parts day k, in-parts day k′, ← limits-same day, ← tasks-same day, ← places-same)
+      (and-then (limitsOk day k && tasksOk day k && places) (nobodyServable k) (nobodyServable k′)
       (λ e. nobody-same (λ i l. listed-task day (k .counts) (taskAt (k .tasks) i)
-      (all-at (k .counts .tasks) _ (both (limitsOk day k) (tasksOk day k) e .1) i l))))
+      (all-at (k .counts .tasks) _ (both (limitsOk day k) (tasksOk day k) (both (limitsOk day k && tasksOk day k) places e .0) .1) i l))))
 
   pub runner-same : runner k ≡ runner k′
-  runner-same = running-same (k .counts) (k .tasks) ts same
+  runner-same = running-same (k .counts) (k .tasks) ts same (k .places) ps stand
 
   -- ---- refusals 8 to 15
 

@@ -38,9 +38,9 @@ use Rattle.machine.proofs.Helping.{grants-help-nobody}
 -- ---- one grant
 
 module _ (n : ℕ) (p : Served) (j : ℕ) (e : canBeServed n p j ≡ true) where
-  grant-urgency : (i : ℕ) → urgency (grantTo j p .tasks) i ≡ urgency (p .tasks) i
+  grant-urgency : (ps : List ℕ) (i : ℕ) → urgency ps (grantTo j p .tasks) i ≡ urgency ps (p .tasks) i
   unfolding urgency
-  grant-urgency i = byEq i j (λ z. rw (z, grant-at n p j e)) (λ z. rw (grant-other p j i z))
+  grant-urgency ps i = byEq i j (λ z. rw (z, grant-at n p j e)) (λ z. rw (grant-other p j i z))
 
   grant-places : length (grantTo j p .locks .bolts) ≡ length (p .locks .bolts)
   unfolding grantTo
@@ -57,25 +57,25 @@ module _ (n : ℕ) (p : Served) (j : ℕ) (e : canBeServed n p j ≡ true) where
 -- ---- the pass
 
 -- Where serving stands, with the list of those who may still be served.
-record Ahead (n : ℕ) (u : ℕ → ℕ) (l : List ℕ) (turns : ℕ) (p : Served) : Type 0 where
+record Ahead (n : ℕ) (ps : List ℕ) (u : ℕ → ℕ) (l : List ℕ) (turns : ℕ) (p : Served) : Type 0 where
   placed : (i : ℕ) → i < n → Placed p i
-  urgent : (i : ℕ) → urgency (p .tasks) i ≡ u i
+  urgent : (i : ℕ) → urgency ps (p .tasks) i ≡ u i
   named : (i : ℕ) → i < n → canBeServed n p i ≡ true → names l i ≡ true
   below : (i : ℕ) → names l i ≡ true → i < n
   enough : waiters n (p .tasks) ≤ turns
 
-nobody-left : (n turns : ℕ) (p : Served) → ((i : ℕ) → i < n → canBeServed n p i ≡ false) → serve n turns p ≡ p
+nobody-left : (n : ℕ) (ps : List ℕ) (turns : ℕ) (p : Served) → ((i : ℕ) → i < n → canBeServed n p i ≡ false) → serve n ps turns p ≡ p
 unfolding serve
-nobody-left n zero p h = refl
-nobody-left n (suc turns) p h = rw (mostUrgent-none n (canBeServed n p) (urgency (p .tasks)) h, serve)
+nobody-left n ps zero p h = refl
+nobody-left n ps (suc turns) p h = rw (mostUrgent-none n (canBeServed n p) (urgency ps (p .tasks)) h, serve)
 
-module _ (n : ℕ) (u : ℕ → ℕ) where
+module _ (n : ℕ) (ps : List ℕ) (u : ℕ → ℕ) where
   -- Who stands first in the list and can be served is the next.
-  first-next : (x : ℕ) (l : List ℕ) (turns : ℕ) (p : Served) → Ahead n u (x ∷ l) turns p → every (λ y. ltb (u x) (u y)) l ≡ true
-      → canBeServed n p x ≡ true → nextServed n p ≡ Runs x
-  first-next x l turns p a o e = go (nextServed n p) (scan-finds n (canBeServed n p) (urgency (p .tasks)))
+  first-next : (x : ℕ) (l : List ℕ) (turns : ℕ) (p : Served) → Ahead n ps u (x ∷ l) turns p → every (λ y. ltb (u x) (u y)) l ≡ true
+      → canBeServed n p x ≡ true → nextServed n ps p ≡ Runs x
+  first-next x l turns p a o e = go (nextServed n ps p) (scan-finds n (canBeServed n p) (urgency ps (p .tasks)))
     where
-      go : (r : Running) → Found n (canBeServed n p) (urgency (p .tasks)) r → r ≡ Runs x
+      go : (r : Running) → Found n (canBeServed n p) (urgency ps (p .tasks)) r → r ≡ Runs x
       go Idle f = contra e (f x (a .below x (names-same x l)))
       go (Runs i) f =
           byEq x i (λ z. rw z)
@@ -86,7 +86,7 @@ module _ (n : ℕ) (u : ℕ → ℕ) where
           absurd (omega (arith, a .urgent i, a .urgent x)))
 
   -- Who can't be served is passed over.
-  passed-over : (x : ℕ) (l : List ℕ) (turns : ℕ) (p : Served) → Ahead n u (x ∷ l) turns p → canBeServed n p x ≡ false → Ahead n u l turns p
+  passed-over : (x : ℕ) (l : List ℕ) (turns : ℕ) (p : Served) → Ahead n ps u (x ∷ l) turns p → canBeServed n p x ≡ false → Ahead n ps u l turns p
   passed-over x l turns p a e =
       record {
         placed = a .placed;
@@ -97,36 +97,36 @@ module _ (n : ℕ) (u : ℕ → ℕ) where
       }
 
   -- After a grant nobody else has come.
-  grant-ahead : (x : ℕ) (l : List ℕ) (turns : ℕ) (p : Served) → Ahead n u (x ∷ l) (suc turns) p → canBeServed n p x ≡ true
-      → Ahead n u l turns (grantTo x p)
+  grant-ahead : (x : ℕ) (l : List ℕ) (turns : ℕ) (p : Served) → Ahead n ps u (x ∷ l) (suc turns) p → canBeServed n p x ≡ true
+      → Ahead n ps u l turns (grantTo x p)
   grant-ahead x l turns p a e =
       let b = a .below x (names-same x l) in
       record {
         placed = λ i c. grant-placed n p x e i (a .placed i c);
-        urgent = λ i. grant-urgency n p x e i ∙ a .urgent i;
+        urgent = λ i. grant-urgency n p x e ps i ∙ a .urgent i;
         named = λ i c s. byEq x i (λ z. contra s (rw (← z) (granted-idle n p x e)))
             (λ z. rw (names-head x i l z) at (a .named i c (grants-help-nobody n p x i (a .placed x b) e s)));
         below = λ i m. a .below i (names-tail x i l m);
         enough = omega (arith, grant-fewer n p x b e, a .enough);
       }
 
-  pass : (l : List ℕ) (turns : ℕ) (p : Served) → ascending u l ≡ true → Ahead n u l turns p → serve n turns p ≡ inTurn n l p
+  pass : (l : List ℕ) (turns : ℕ) (p : Served) → ascending u l ≡ true → Ahead n ps u l turns p → serve n ps turns p ≡ inTurn n l p
   unfolding inTurn ascending serve
   pass [] turns p o a =
-      nobody-left n turns p (λ i b. byBool (canBeServed n p i) (λ e. contra (a .named i b e) (unfold names in refl)) (λ e. e))
+      nobody-left n ps turns p (λ i b. byBool (canBeServed n p i) (λ e. contra (a .named i b e) (unfold names in refl)) (λ e. e))
   pass (x ∷ l) turns p o a =
       let d = both (every (λ y. ltb (u x) (u y)) l) (ascending u l) o in
       byBool (canBeServed n p x) (λ e. rw e (granted turns (d .0) e a (λ t q b. pass l t q (d .1) b)))
       (λ e. rw e (pass l turns p (d .1) (passed-over x l turns p a e)))
     where
-      granted : (turns : ℕ) → every (λ y. ltb (u x) (u y)) l ≡ true → canBeServed n p x ≡ true → Ahead n u (x ∷ l) turns p
-          → ((t : ℕ) (q : Served) → Ahead n u l t q → serve n t q ≡ inTurn n l q) → serve n turns p ≡ inTurn n l (grantTo x p)
+      granted : (turns : ℕ) → every (λ y. ltb (u x) (u y)) l ≡ true → canBeServed n p x ≡ true → Ahead n ps u (x ∷ l) turns p
+          → ((t : ℕ) (q : Served) → Ahead n ps u l t q → serve n ps t q ≡ inTurn n l q) → serve n ps turns p ≡ inTurn n l (grantTo x p)
       granted zero f e a ih = contra e (none-waits n p (a .enough) x (a .below x (names-same x l)))
       granted (suc t) f e a ih = rw (first-next x l (suc t) p a f e, serve) (ih t (grantTo x p) (grant-ahead x l t p a e))
 
 pub serves-in-one-pass : ServesInOnePass
-serves-in-one-pass n p l h b =
-    pass n (urgency (p .tasks)) l n p (b .order)
+serves-in-one-pass n ps p l h b =
+    pass n ps (urgency ps (p .tasks)) l n p (b .order)
     (record { placed = h; urgent = λ i. refl; named = λ i c s. b .all i c; below = b .only; enough = waiters-le n (p .tasks) })
 
 -- ---- every call
@@ -146,4 +146,4 @@ calls-serve-in-one-pass day isDay k p s o c a d l b =
     let done = call-done day isDay k h c (omega arith) d (passed day k c (no-refusal day k s c a)) in
     let start = unserved-ok day k h (workOf day k c) (did-ok day k h done) in
     rw (step-work day k s c a (sortOf (c .head .mark)) refl d)
-    (serves-in-one-pass (k .counts .tasks) (unserved (workOf day k c)) l (served-placed day k h (unserved (workOf day k c)) start) b)
+    (serves-in-one-pass (k .counts .tasks) (k .places) (unserved (workOf day k c)) l (served-placed day k h (unserved (workOf day k c)) start) b)

@@ -16,13 +16,14 @@ use Rattle.task.proofs.Waits.{NoNewWait}
 use Rattle.machine.specs.declared.Counts.{Counts}
 use Rattle.machine.specs.declared.Running.{Running}
 use Rattle.machine.specs.declared.Running.the-variants.{Idle, Runs}
-use Rattle.machine.specs.State.{mostTasks, mostSemaphores, mostBolts, taskAt}
+use Rattle.machine.specs.State.{mostTasks, mostSemaphores, mostBolts, taskAt, placeAt}
 use Rattle.machine.specs.Granting.{servable}
 use Rattle.machine.specs.Serving.{Served, nextServed, grantTo, serve}
-use Rattle.machine.specs.Promises.{Chosen}
 use Rattle.machine.proofs.Urgency.{next-served-first, scan-same}
 use Rattle.machine.proofs.Passed.{Listed, Fits}
 use Rattle.machine.proofs.Looks.{urgency-same, servable-same}
+use Rattle.machine.specs.Running.{urgency}
+use Rattle.machine.proofs.Below.{Found, scan-finds}
 
 -- Each wait's list is declared.
 pub record Pair (n : Counts) (ts ts′ : List Task) (r r′ : Locks) : Type 0 where
@@ -67,21 +68,22 @@ module _ (n : Counts) (f : Fits n) where
         refl,
       )
 
-  next-same : (p p′ : Served) → PairOf p p′ → nextServed (n .tasks) p ≡ nextServed (n .tasks) p′
-  next-same p p′ (h, g) =
-      let s = seen mostSemaphores mostBolts (n .semaphores) (n .bolts) (f .semaphores) (f .bolts) (p .locks) (p′ .locks) (h .locks) in
-      scan-same (n .tasks) _ _ _ _
-      (λ i l. servable-same n (p .tasks) (p′ .tasks) (h .tasks .below) (p .locks) (p′ .locks) s i l (h .listed i l))
-      (urgency-same n (p .tasks) (p′ .tasks) (h .tasks .below))
+  module _ (ps ps′ : List ℕ) (stand : (i : ℕ) → i < n .tasks → placeAt ps i ≡ placeAt ps′ i) where
+    next-same : (p p′ : Served) → PairOf p p′ → nextServed (n .tasks) ps p ≡ nextServed (n .tasks) ps′ p′
+    next-same p p′ (h, g) =
+        let s = seen mostSemaphores mostBolts (n .semaphores) (n .bolts) (f .semaphores) (f .bolts) (p .locks) (p′ .locks) (h .locks) in
+        scan-same (n .tasks) _ _ _ _
+        (λ i l. servable-same n (p .tasks) (p′ .tasks) (h .tasks .below) (p .locks) (p′ .locks) s i l (h .listed i l))
+        (urgency-same n (p .tasks) (p′ .tasks) (h .tasks .below) ps ps′ stand)
 
-  pub serve-pair : (turns : ℕ) (p p′ : Served) → PairOf p p′ → PairOf (serve (n .tasks) turns p) (serve (n .tasks) turns p′)
-  unfolding serve
-  serve-pair zero p p′ h = h
-  serve-pair (suc turns) p p′ h =
-      rw (← next-same p p′ h, serve) (go (λ q q′. serve-pair turns q q′) (nextServed (n .tasks) p) (next-served-first (n .tasks) p (f .tasks)))
-    where
-      go : ((q q′ : Served) → PairOf q q′ → PairOf (serve (n .tasks) turns q) (serve (n .tasks) turns q′))
-          → (r : Running) → Chosen (n .tasks) (servable (n .tasks) (p .tasks) (p .locks)) (p .tasks) r
-          → PairOf (elim r [ Idle ↦ p | Runs i ↦ serve (n .tasks) turns (grantTo i p) ]) (elim r [ Idle ↦ p′ | Runs i ↦ serve (n .tasks) turns (grantTo i p′) ])
-      go ih Idle c = h
-      go ih (Runs i) c = ih (grantTo i p) (grantTo i p′) (grant-pair p p′ h i (c .below))
+    pub serve-pair : (turns : ℕ) (p p′ : Served) → PairOf p p′ → PairOf (serve (n .tasks) ps turns p) (serve (n .tasks) ps′ turns p′)
+    unfolding serve
+    serve-pair zero p p′ h = h
+    serve-pair (suc turns) p p′ h =
+        rw (← next-same p p′ h, serve) (go (λ q q′. serve-pair turns q q′) (nextServed (n .tasks) ps p) (scan-finds (n .tasks) (servable (n .tasks) (p .tasks) (p .locks)) (urgency ps (p .tasks))))
+      where
+        go : ((q q′ : Served) → PairOf q q′ → PairOf (serve (n .tasks) ps turns q) (serve (n .tasks) ps′ turns q′))
+            → (r : Running) → Found (n .tasks) (servable (n .tasks) (p .tasks) (p .locks)) (urgency ps (p .tasks)) r
+            → PairOf (elim r [ Idle ↦ p | Runs i ↦ serve (n .tasks) ps turns (grantTo i p) ]) (elim r [ Idle ↦ p′ | Runs i ↦ serve (n .tasks) ps′ turns (grantTo i p′) ])
+        go ih Idle c = h
+        go ih (Runs i) c = ih (grantTo i p) (grantTo i p′) (grant-pair p p′ h i (c .0))

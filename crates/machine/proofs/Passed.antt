@@ -26,7 +26,7 @@ use Rattle.machine.specs.declared.State.{State}
 use Rattle.machine.specs.declared.Running.{Running}
 use Rattle.machine.specs.State.{mostTasks, mostSemaphores, mostBolts, mostInterrupts, taskAt, countOf}
 use Rattle.machine.specs.Sums.{allBelow}
-use Rattle.machine.specs.Test.{between, isPriority, keptOk, holdOk, waitOk, scheduleOk, continuationOk, taskOk, countsOk, nobodyServable, valid}
+use Rattle.machine.specs.Test.{between, isPriority, keptOk, holdOk, waitOk, scheduleOk, continuationOk, taskOk, countsOk, placesOk, nobodyServable, valid}
 use Rattle.machine.specs.Running.{someone}
 use Rattle.machine.specs.Sorts.{sortOf, declares, needsRunner, givenKind}
 use Rattle.machine.specs.Refusals.{declaredIn, roomFor, formalRefusal, unreturnable, isContinue, refusalBy, stateRefusal}
@@ -175,6 +175,7 @@ pub record Parts (day : ℕ) (k : State) : Type 0 where
   pub values : allBelow (k .counts .semaphores) (λ s. leb (valueAt (k .locks) s) mostValue) ≡ true
   pub readers : allBelow (k .counts .bolts) (λ b. leb (boltAt (k .locks) b .readers) mostValue) ≡ true
   pub tasks : allBelow (k .counts .tasks) (λ i. taskOk day (k .counts) (taskAt (k .tasks) i)) ≡ true
+  pub places : placesOk (k .counts .tasks) (k .places) ≡ true
   pub stuck : nobodyServable k ≡ true
 
 pub parts : (day : ℕ) (k : State) → valid day k ≡ true → Parts day k
@@ -182,7 +183,8 @@ unfolding valid
 parts day k e =
     let n = k .counts in
     let a = both _ (nobodyServable k) e in
-    let b = both _ (allBelow (n .tasks) (λ i. taskOk day n (taskAt (k .tasks) i))) (a .0) in
+    let p = both _ (placesOk (n .tasks) (k .places)) (a .0) in
+    let b = both _ (allBelow (n .tasks) (λ i. taskOk day n (taskAt (k .tasks) i))) (p .0) in
     let c = both _ (allBelow (n .bolts) (λ b. leb (boltAt (k .locks) b .readers) mostValue)) (b .0) in
     let d = both _ (allBelow (n .semaphores) (λ s. leb (valueAt (k .locks) s) mostValue)) (c .0) in
     let f = both _ (countsOk n) (d .0) in
@@ -194,6 +196,7 @@ parts day k e =
       values = d .1;
       readers = c .1;
       tasks = b .1;
+      places = p .1;
       stuck = a .1;
     }
 

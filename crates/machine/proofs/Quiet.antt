@@ -44,6 +44,8 @@ use Rattle.machine.proofs.Passed.{parts, tested}
 use Rattle.machine.proofs.SetLaws.{each-same, unmarked-none}
 use Rattle.machine.proofs.Works.{set-none}
 use Rattle.machine.proofs.Facts.{nobody-untest}
+use Rattle.machine.specs.Places.{event}
+use Rattle.machine.proofs.Places.{moved-nobody, no-event}
 
 -- ---- turns that mark nothing and leave their tasks
 
@@ -72,13 +74,13 @@ tick-formed day n false = refl
 
 module _ (day : ℕ) (k : State) (room : length (k .tasks) ≡ mostTasks) (v : valid day k ≡ true) where
   nobody-served : (g turns : ℕ)
-      → serve (k .counts .tasks) turns (record { tasks = k .tasks; locks = k .locks; granted = g })
+      → serve (k .counts .tasks) (k .places) turns (record { tasks = k .tasks; locks = k .locks; granted = g })
       ≡ record { tasks = k .tasks; locks = k .locks; granted = g }
   unfolding serve
   nobody-served g zero = refl
   nobody-served g (suc n) =
       rw (
-        mostUrgent-none (k .counts .tasks) (servable (k .counts .tasks) (k .tasks) (k .locks)) (urgency (k .tasks))
+        mostUrgent-none (k .counts .tasks) (servable (k .counts .tasks) (k .tasks) (k .locks)) (urgency (k .places) (k .tasks))
             (nobody-untest k (parts day k v .stuck)),
         serve,
       )
@@ -107,7 +109,9 @@ module _ (day : ℕ) (k : State) (room : length (k .tasks) ≡ mostTasks) (v : v
       → finish k (tick k)
       ≡ record { state = begunAt (plus (k .now) (duration 1)) k; answer = plainAnswer 0 (runner k) }
   unfolding finish
-  tick-moves q = rw (tick-still q, nobody-served 0 (k .counts .tasks))
+  tick-moves q =
+      let n = k .counts .tasks in
+      rw (tick-still q, nobody-served 0 n, moved-nobody n (event (k .tasks) (k .tasks) 0) n (k .places) (λ i l. no-event (k .tasks) i))
 
   -- A tick, quiet or not.
   pub tick-step : (c : Call) → step day k oneTick ≡ orRefuse k (stateRefusal TI k c) (finish k (tick k))

@@ -57,13 +57,13 @@ grant-other p j i ne = getD-set-other (p .tasks) j i _ noTask ne
 -- ---- all of them
 
 -- What each grant keeps, serving keeps.
-pub serve-keeps : (n : ℕ) (P : Served → Type 0) → ((p : Served) (j : ℕ) → j < n → servable n (p .tasks) (p .locks) j ≡ true → P p → P (grantTo j p))
-    → (turns : ℕ) (p : Served) → P p → P (serve n turns p)
+pub serve-keeps : (n : ℕ) (ps : List ℕ) (P : Served → Type 0) → ((p : Served) (j : ℕ) → j < n → servable n (p .tasks) (p .locks) j ≡ true → P p → P (grantTo j p))
+    → (turns : ℕ) (p : Served) → P p → P (serve n ps turns p)
 unfolding serve
-serve-keeps n P one zero p h = h
-serve-keeps n P one (suc turns) p h = go (λ q. serve-keeps n P one turns q) (nextServed n p) refl
+serve-keeps n ps P one zero p h = h
+serve-keeps n ps P one (suc turns) p h = go (λ q. serve-keeps n ps P one turns q) (nextServed n ps p) refl
   where
-    go : ((q : Served) → P q → P (serve n turns q)) → (r : Running) → nextServed n p ≡ r → P (elim r [ Idle ↦ p | Runs i ↦ serve n turns (grantTo i p) ])
+    go : ((q : Served) → P q → P (serve n ps turns q)) → (r : Running) → nextServed n ps p ≡ r → P (elim r [ Idle ↦ p | Runs i ↦ serve n ps turns (grantTo i p) ])
     go ih Idle e = h
     go ih (Runs j) e =
         let u = mostUrgent-at n (servable n (p .tasks) (p .locks)) _ j e in
@@ -91,21 +91,21 @@ none-waits n p h i l = idle-then (waiting (taskAt (p .tasks) i .wait)) (omega (a
     idle-then true z = absurd (not-suc-le-zero z)
     idle-then false z = refl
 
-serve-ends : (n turns : ℕ) (p : Served) → waiters n (p .tasks) ≤ turns → (i : ℕ) → i < n → servable n (serve n turns p .tasks) (serve n turns p .locks) i ≡ false
+serve-ends : (n : ℕ) (ps : List ℕ) (turns : ℕ) (p : Served) → waiters n (p .tasks) ≤ turns → (i : ℕ) → i < n → servable n (serve n ps turns p .tasks) (serve n ps turns p .locks) i ≡ false
 unfolding serve
-serve-ends n zero p w = none-waits n p w
-serve-ends n (suc turns) p w = go (λ q. serve-ends n turns q) (nextServed n p) refl
+serve-ends n ps zero p w = none-waits n p w
+serve-ends n ps (suc turns) p w = go (λ q. serve-ends n ps turns q) (nextServed n ps p) refl
   where
-    go : ((q : Served) → waiters n (q .tasks) ≤ turns → (i : ℕ) → i < n → servable n (serve n turns q .tasks) (serve n turns q .locks) i ≡ false)
-        → (r : Running) → nextServed n p ≡ r
-        → (i : ℕ) → i < n → servable n ((elim r as (λ _. Served) [ Idle ↦ p | Runs i ↦ serve n turns (grantTo i p) ]) .tasks) ((elim r as (λ _. Served) [ Idle ↦ p | Runs i ↦ serve n turns (grantTo i p) ]) .locks) i ≡ false
+    go : ((q : Served) → waiters n (q .tasks) ≤ turns → (i : ℕ) → i < n → servable n (serve n ps turns q .tasks) (serve n ps turns q .locks) i ≡ false)
+        → (r : Running) → nextServed n ps p ≡ r
+        → (i : ℕ) → i < n → servable n ((elim r as (λ _. Served) [ Idle ↦ p | Runs i ↦ serve n ps turns (grantTo i p) ]) .tasks) ((elim r as (λ _. Served) [ Idle ↦ p | Runs i ↦ serve n ps turns (grantTo i p) ]) .locks) i ≡ false
     go ih Idle e = mostUrgent-idle n (servable n (p .tasks) (p .locks)) _ e
     go ih (Runs j) e =
         let u = mostUrgent-at n (servable n (p .tasks) (p .locks)) _ j e in
         ih (grantTo j p) (omega (arith, grant-fewer n p j (u .0) (u .1)))
 
 pub serving-ends : ServingEnds
-serving-ends n p i l = serve-ends n n p (waiters-le n (p .tasks)) i l
+serving-ends n ps p i l = serve-ends n ps n p (waiters-le n (p .tasks)) i l
 
 -- ---- the limits of the kernel test
 

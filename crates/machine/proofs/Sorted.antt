@@ -17,6 +17,7 @@ use Rattle.task.specs.declared.Task.{Task}
 use Rattle.machine.specs.State.{mostTasks}
 use Rattle.machine.specs.Running.{urgency}
 use Rattle.machine.specs.OnePass.{ascending, ByUrgency, OrderExists}
+use Rattle.machine.proofs.Places.{Apart, apart-of}
 
 module _ (u : ℕ → ℕ) where
   insert : ℕ → List ℕ → List ℕ
@@ -55,26 +56,27 @@ module _ (u : ℕ → ℕ) where
       (λ q. every-at (λ (z : ℕ). ltb (u y) (u z)) l z (d .0) (rw (insert-names x l z, names-head x z l q) at m))))
       (insert-order x l (λ z m. h z (names-tail y z l m)) (d .1))))
 
--- No two tasks of the table are as urgent as each other.
-urgency-apart : (ts : List Task) (i j : ℕ) → i < mostTasks → j < mostTasks → i ≢ j → urgency ts i ≢ urgency ts j
+-- No two tasks that have places of their own are as urgent as each other.
+pub urgency-apart : (n : ℕ) (ps : List ℕ) (ts : List Task) → n ≤ mostTasks → Apart n ps → (i j : ℕ) → i < n → j < n
+    → urgency ps ts i ≡ urgency ps ts j → i ≡ j
 unfolding urgency
-urgency-apart ts i j a b h e = h (omega arith)
+urgency-apart n ps ts h a i j l m e = a .apart i j l m (omega (arith, a .range i l, a .range j m, e))
 
-module _ (ts : List Task) where
-  listed : (n : ℕ) → n ≤ mostTasks → ByUrgency n ts (sorted (urgency ts) n)
+module _ (most : ℕ) (ps : List ℕ) (ts : List Task) (small : most ≤ mostTasks) (a : Apart most ps) where
+  listed : (n : ℕ) → n ≤ most → ByUrgency n ps ts (sorted (urgency ps ts) n)
   unfolding sorted
   listed zero h =
       record { all = λ i l. absurd (not-suc-le-zero l); only = λ i m. contra m (unfold names in refl); order = unfold ascending in refl }
   listed (suc n) h =
-      let u = urgency ts in
+      let u = urgency ps ts in
       let s = sorted u n in
       let b = listed n (omega arith) in
       record {
         all = λ i l. rw (insert-names u n s i) (byEq n i (λ q. rw (← q) (names-same n s)) (λ q. names-tail n i s (b .all i (omega arith))));
         only = λ i m. byEq n i (λ q. omega arith)
             (λ q. let z = b .only i (rw (insert-names u n s i, names-head n i s q) at m) in omega arith);
-        order = insert-order u n s (λ y m. let z = b .only y m in urgency-apart ts n y (omega arith) (omega arith) (λ q. omega arith)) (b .order);
+        order = insert-order u n s (λ y m. let z = b .only y m in λ e. let q = urgency-apart most ps ts small a n y (omega arith) (omega arith) e in omega arith) (b .order);
       }
 
 pub order-exists : OrderExists
-order-exists n ts h = (sorted (urgency ts) n, listed ts n h)
+order-exists n ps ts h e = (sorted (urgency ps ts) n, listed n ps ts h (apart-of n ps e) n (omega arith))

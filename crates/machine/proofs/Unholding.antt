@@ -106,13 +106,13 @@ due-after-ticks day d k i x room v l e q n m =
 
 -- ---- after any list of records
 
-final-passes : (day : ℕ) → IsDay day → (k : State) → Passes day k → (rs : List (List ℕ)) → AllOctets rs → Passes day (final day k rs)
+pub final-passes : (day : ℕ) → IsDay day → (k : State) → Passes day k → (rs : List (List ℕ)) → AllOctets rs → Passes day (final day k rs)
 unfolding final AllOctets
 final-passes day isDay k p [] o = p
 final-passes day isDay k p (r ∷ rs) o =
     final-passes day isDay (step day k r .state) (step-passes day isDay k p r (o .0)) rs (o .1)
 
-final-declared : (day : ℕ) (k : State) (i : ℕ) → i < k .counts .tasks → (rs : List (List ℕ)) → i < final day k rs .counts .tasks
+pub final-declared : (day : ℕ) (k : State) (i : ℕ) → i < k .counts .tasks → (rs : List (List ℕ)) → i < final day k rs .counts .tasks
 unfolding final
 final-declared day k i l [] = l
 final-declared day k i l (r ∷ rs) = final-declared day (step day k r .state) i (still-declared day k i l r) rs

@@ -75,6 +75,7 @@ unfoldable pub lone : ℕ → ℕ → Task → State
 lone clock now t =
     record {
       tasks = t ∷ replicate 31 vacant;
+      places = replicate 32 0;
       locks = record { semaphores = replicate mostSemaphores 0; bolts = replicate mostBolts emptyBolt };
       enabled = replicate mostInterrupts false;
       counts = record { tasks = 1; semaphores = 0; bolts = 0; interrupts = 0 };

@@ -33,7 +33,7 @@ use Rattle.machine.specs.declared.Running.{Running}
 use Rattle.machine.specs.declared.Sort.{Sort}
 use Rattle.machine.specs.declared.Sort.the-variants.{Declaration, OneTask, TheRunner, ListAsked, ListGiven, AnInterrupt, EveryTask}
 use Rattle.machine.specs.declared.Running.the-variants.{Idle, Runs}
-use Rattle.machine.specs.State.{mostTasks, mostSemaphores, mostBolts, mostInterrupts, taskAt, enabledAt, withState}
+use Rattle.machine.specs.State.{mostTasks, mostSemaphores, mostBolts, mostInterrupts, taskAt, placeAt, enabledAt, withState, withPlaces}
 use Rattle.machine.specs.Running.{runner, someone}
 use Rattle.machine.specs.Granting.{couldBeGranted}
 use Rattle.machine.specs.Sets.{only}
@@ -81,19 +81,20 @@ pub no-wait-runner : (day clock : ℕ) (n : Instant) (m : Mark) (h : Head) (t : 
 unfolding runnerTurn
 no-wait-runner day clock n m h t = byBool (bears m RE) (λ e. rw e (no-wait-resume-by day clock n h t)) (λ e. rw e (no-wait-end t))
 
-module _ (k : State) (ts : List Task) (r : Locks) (is : List Bool) (f : Fits (k .counts)) (h : Pair (k .counts) (k .tasks) ts (k .locks) r)
+module _ (k : State) (ts : List Task) (ps : List ℕ) (r : Locks) (is : List Bool) (f : Fits (k .counts)) (h : Pair (k .counts) (k .tasks) ts (k .locks) r)
+    (stand : (i : ℕ) → i < k .counts .tasks → placeAt (k .places) i ≡ placeAt ps i)
     (ints : Like false mostInterrupts (k .counts .interrupts) (k .enabled) is) where
   abbrev n : Counts
   n = k .counts
 
   abbrev k′ : State
-  k′ = withState ts r is k
+  k′ = withPlaces ps (withState ts r is k)
 
   abbrev sees : Seen (n .semaphores) (n .bolts) (k .locks) r
   sees = seen mostSemaphores mostBolts (n .semaphores) (n .bolts) (f .semaphores) (f .bolts) (k .locks) r (h .locks)
 
   same-runner : runner k ≡ runner k′
-  same-runner = runner-same k ts r is (h .tasks .below) sees
+  same-runner = runner-same k ts ps r is (h .tasks .below) stand sees
 
   -- ---- no turn
 

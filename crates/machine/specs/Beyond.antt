@@ -5,7 +5,7 @@ use Prim.Native.Nat.{ℕ, _<_}
 use Rattle.lock.specs.Locks.{valueAt, boltAt}
 use Rattle.machine.specs.declared.State.{State}
 use Rattle.machine.specs.declared.Stepped.{Stepped}
-use Rattle.machine.specs.State.{taskAt, enabledAt}
+use Rattle.machine.specs.State.{taskAt, placeAt, enabledAt}
 use Rattle.machine.specs.Step.{step}
 use Rattle.machine.specs.Log.{log}
 use Rattle.machine.specs.Invariants.{Tables}
@@ -17,6 +17,7 @@ pub record Agree (k k′ : State) : Type 0 where
   pub now : k .now ≡ k′ .now
   pub begun : k .begun ≡ k′ .begun
   pub tasks : (i : ℕ) → i < k .counts .tasks → taskAt (k .tasks) i ≡ taskAt (k′ .tasks) i
+  pub places : (i : ℕ) → i < k .counts .tasks → placeAt (k .places) i ≡ placeAt (k′ .places) i
   pub semaphores : (x : ℕ) → x < k .counts .semaphores → valueAt (k .locks) x ≡ valueAt (k′ .locks) x
   pub bolts : (x : ℕ) → x < k .counts .bolts → boltAt (k .locks) x ≡ boltAt (k′ .locks) x
   pub enabled : (i : ℕ) → i < k .counts .interrupts → enabledAt k i ≡ enabledAt k′ i

@@ -23,7 +23,7 @@ use Rattle.machine.specs.declared.State.{State}
 use Rattle.machine.specs.declared.Change.{Change}
 use Rattle.machine.specs.declared.Sort.{Sort}
 use Rattle.machine.specs.declared.Sort.the-variants.{Declaration, OneTask, TheRunner, ListAsked, ListGiven, AnInterrupt, EveryTask}
-use Rattle.machine.specs.State.{taskAt, enabledAt, freshTask, withState, withCounts, withClock}
+use Rattle.machine.specs.State.{taskAt, enabledAt, freshTask, withState, withPlaces, withCounts, withClock}
 use Rattle.machine.specs.Sorts.{sortOf, placeOf}
 use Rattle.machine.specs.Activation.{activateTurn, goOnTurn, resumeBy}
 use Rattle.machine.specs.Running.{runner}
@@ -32,12 +32,14 @@ use Rattle.machine.specs.Work.{Work, byTurn, byLocks, changed, onlyEnabl
 
 -- ---- declarations: the next place of the kind is filled whole
 
+-- A task's first place is its number.
 unfoldable pub addTask : ℕ → State → State
 addTask p k =
     let n = k .counts in
     withCounts
     (record { tasks = n .tasks + 1; semaphores = n .semaphores; bolts = n .bolts; interrupts = n .interrupts })
-    (withState (set (k .tasks) (n .tasks) (freshTask p)) (k .locks) (k .enabled) k)
+    (withPlaces (set (k .places) (n .tasks) (n .tasks))
+    (withState (set (k .tasks) (n .tasks) (freshTask p)) (k .locks) (k .enabled) k))
 
 unfoldable pub addSemaphore : ℕ → State → State
 addSemaphore v k =

@@ -49,7 +49,8 @@ SameButWait t u = (w : Wait) × (u ≡ waitFor w (t .len) (t .list) t)
 -- Serving changes nothing else.
 abbrev pub ServingKeeps : Type 0
 ServingKeeps =
-    (n turns : ℕ) (p : Served) (i : ℕ) → SameButWait (taskAt (p .tasks) i) (taskAt (serve n turns p .tasks) i)
+    (n : ℕ) (ps : List ℕ) (turns : ℕ) (p : Served) (i : ℕ)
+    → SameButWait (taskAt (p .tasks) i) (taskAt (serve n ps turns p .tasks) i)
 
 -- ---- CONTINUE, RESUME and TRIGGER
 

@@ -22,6 +22,7 @@ pub record IsDay (day : ℕ) : Type 0 where
 -- The tables have as many places as document 01 says, as in every value of the code.
 pub record Tables (k : State) : Type 0 where
   pub tasks : length (k .tasks) ≡ mostTasks
+  pub places : length (k .places) ≡ mostTasks
   pub semaphores : length (k .locks .semaphores) ≡ mostSemaphores
   pub bolts : length (k .locks .bolts) ≡ mostBolts
   pub enabled : length (k .enabled) ≡ mostInterrupts
@@ -45,4 +46,5 @@ CarryPasses =
 -- Serving ends with nobody waiting on a list that could be granted.
 abbrev pub ServingEnds : Type 0
 ServingEnds =
-    (n : ℕ) (p : Served) (i : ℕ) → i < n → servable n (serve n n p .tasks) (serve n n p .locks) i ≡ false
+    (n : ℕ) (ps : List ℕ) (p : Served) (i : ℕ) → i < n
+    → servable n (serve n ps n p .tasks) (serve n ps n p .locks) i ≡ false

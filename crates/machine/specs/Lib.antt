@@ -8,6 +8,7 @@ pub mod NextEvent
 pub mod Granting
 pub mod Work
 pub mod Serving
+pub mod Places
 pub mod Test
 pub mod Refusals
 pub mod Activation
@@ -23,8 +24,10 @@ pub mod Scripts
 pub mod Quiet
 pub mod Continuing
 pub mod OnePass
--- What it answers: document 01's marked cases and slips, continuations, and waiting writers.
+pub mod Turns
+-- What it answers: document 01's marked cases and slips, continuations, waiting writers, and turns.
 pub mod Marked
 pub mod Slips
 pub mod Continued
 pub mod Writers
+pub mod TurnCases

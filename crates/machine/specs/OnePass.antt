@@ -21,6 +21,7 @@ use Rattle.machine.specs.Running.{urgency}
 use Rattle.machine.specs.Granting.{servable}
 use Rattle.machine.specs.Work.{Work}
 use Rattle.machine.specs.Serving.{Served, grantTo, serve}
+use Rattle.machine.specs.Test.{placesOk}
 use Rattle.machine.specs.Calls.{workOf}
 use Rattle.machine.specs.Step.{step}
 use Rattle.machine.specs.Invariants.{IsDay, Passes}
@@ -57,20 +58,21 @@ ascending u [] = true
 ascending u (x ∷ l) = every (λ y. ltb (u x) (u y)) l && ascending u l
 
 -- The list of the numbers below n, the most urgent first.
-pub record ByUrgency (n : ℕ) (ts : List Task) (l : List ℕ) : Type 0 where
+pub record ByUrgency (n : ℕ) (ps : List ℕ) (ts : List Task) (l : List ℕ) : Type 0 where
   pub all : (i : ℕ) → i < n → names l i ≡ true
   pub only : (i : ℕ) → names l i ≡ true → i < n
-  pub order : ascending (urgency ts) l ≡ true
+  pub order : ascending (urgency ps ts) l ≡ true
 
 -- There is one.
 abbrev pub OrderExists : Type 0
-OrderExists = (n : ℕ) (ts : List Task) → n ≤ mostTasks → (l : List ℕ) × ByUrgency n ts l
+OrderExists =
+    (n : ℕ) (ps : List ℕ) (ts : List Task) → n ≤ mostTasks → placesOk n ps ≡ true → (l : List ℕ) × ByUrgency n ps ts l
 
 -- Serving, which looks for the next at each turn, goes once through that list.
 abbrev pub ServesInOnePass : Type 0
 ServesInOnePass =
-    (n : ℕ) (p : Served) (l : List ℕ) → ((i : ℕ) → i < n → Placed p i) → ByUrgency n (p .tasks) l
-    → serve n n p ≡ inTurn n l p
+    (n : ℕ) (ps : List ℕ) (p : Served) (l : List ℕ) → ((i : ℕ) → i < n → Placed p i) → ByUrgency n ps (p .tasks) l
+    → serve n ps n p ≡ inTurn n l p
 
 -- ---- every call
 
@@ -85,5 +87,5 @@ served s = record { tasks = s .state .tasks; locks = s .state .locks; granted = 
 abbrev pub CallsServeInOnePass : Type 0
 CallsServeInOnePass =
     (day : ℕ) → IsDay day → (k : State) → Passes day k → (s : List ℕ) → Octets s → (c : Call) → Accepts day k s c
-    → declares (c .head .mark) ≡ false → (l : List ℕ) → ByUrgency (k .counts .tasks) (workOf day k c .tasks) l
+    → declares (c .head .mark) ≡ false → (l : List ℕ) → ByUrgency (k .counts .tasks) (k .places) (workOf day k c .tasks) l
     → served (step day k s) ≡ inTurn (k .counts .tasks) l (unserved (workOf day k c))

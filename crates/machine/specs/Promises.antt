@@ -19,8 +19,8 @@ use Rattle.machine.specs.declared.Running.{Running}
 use Rattle.machine.specs.declared.Running.the-variants.{Idle, Runs}
 use Rattle.machine.specs.declared.Stepped.{Stepped}
 use Rattle.machine.specs.Sets.{Set, members, noSets}
-use Rattle.machine.specs.State.{mostTasks, taskAt}
-use Rattle.machine.specs.Running.{urgency, mostUrgent, runner}
+use Rattle.machine.specs.State.{taskAt, placeAt}
+use Rattle.machine.specs.Running.{mostPlaces, urgency, mostUrgent, runner}
 use Rattle.machine.specs.Granting.{servable}
 use Rattle.machine.specs.Serving.{Served, nextServed}
 use Rattle.machine.specs.Test.{valid}
@@ -30,33 +30,40 @@ use Rattle.machine.specs.Step.{refuse, carry, step}
 
 -- ---- the most urgent task. Proved in proofs/Urgency.antt.
 
--- Of the numbers below n that pass a test, i has the smallest current priority, and is the smallest of those that have it.
-pub record First (n : ℕ) (test : ℕ → Bool) (ts : List Task) (i : ℕ) : Type 0 where
+-- Of the numbers below n that pass a test, i has the smallest current priority, and the first place of those that have it.
+pub record First (n : ℕ) (test : ℕ → Bool) (ps : List ℕ) (ts : List Task) (i : ℕ) : Type 0 where
   pub below : i < n
   pub passes : test i ≡ true
   pub smallest : (j : ℕ) → j < n → test j ≡ true → taskAt ts i .current ≤ taskAt ts j .current
-  pub ties : (j : ℕ) → j < n → test j ≡ true → taskAt ts j .current ≡ taskAt ts i .current → i ≤ j
+  pub ties : (j : ℕ) → j < n → test j ≡ true → taskAt ts j .current ≡ taskAt ts i .current
+      → placeAt ps i ≤ placeAt ps j
 
 -- The first of them; or none, where none passes.
-abbrev pub Chosen : ℕ → (ℕ → Bool) → List Task → Running → Type 0
-Chosen n test ts Idle = (j : ℕ) → j < n → test j ≡ false
-Chosen n test ts (Runs i) = First n test ts i
+abbrev pub Chosen : ℕ → (ℕ → Bool) → List ℕ → List Task → Running → Type 0
+Chosen n test ps ts Idle = (j : ℕ) → j < n → test j ≡ false
+Chosen n test ps ts (Runs i) = First n test ps ts i
+
+-- The places of n tasks are bytes, as in every value of the code.
+abbrev pub AreBytes : ℕ → List ℕ → Type 0
+AreBytes n ps = (i : ℕ) → i < n → placeAt ps i < mostPlaces
 
 -- The scan finds the first, whatever the test.
 abbrev pub ScanFindsFirst : Type 0
 ScanFindsFirst =
-    (n : ℕ) (test : ℕ → Bool) (ts : List Task) → n ≤ mostTasks → Chosen n test ts (mostUrgent n test (urgency ts))
+    (n : ℕ) (test : ℕ → Bool) (ps : List ℕ) (ts : List Task) → AreBytes n ps
+    → Chosen n test ps ts (mostUrgent n test (urgency ps ts))
 
 -- The running task is the first of the declared ones that are runnable.
 abbrev pub RunnerIsFirst : Type 0
 RunnerIsFirst =
-    (k : State) → k .counts .tasks ≤ mostTasks
-    → Chosen (k .counts .tasks) (λ i. runnable (taskAt (k .tasks) i)) (k .tasks) (runner k)
+    (k : State) → AreBytes (k .counts .tasks) (k .places)
+    → Chosen (k .counts .tasks) (λ i. runnable (taskAt (k .tasks) i)) (k .places) (k .tasks) (runner k)
 
 -- The next to be served is the first of the n declared ones that wait on a list that could be granted.
 abbrev pub NextServedIsFirst : Type 0
 NextServedIsFirst =
-    (n : ℕ) (p : Served) → n ≤ mostTasks → Chosen n (servable n (p .tasks) (p .locks)) (p .tasks) (nextServed n p)
+    (n : ℕ) (ps : List ℕ) (p : Served) → AreBytes n ps
+    → Chosen n (servable n (p .tasks) (p .locks)) ps (p .tasks) (nextServed n ps p)
 
 -- ---- answers and refusals. Proved in proofs/Answers.antt and proofs/Refused.antt.
 
@@ -71,7 +78,7 @@ abbrev pub AnswersFirst : Type 0
 AnswersFirst =
     (day : ℕ) (k : State) (s : List ℕ) → valid day k ≡ true
     → let z = step day k s .state in
-    Chosen (z .counts .tasks) (λ i. runnable (taskAt (z .tasks) i)) (z .tasks) (step day k s .answer .running)
+    Chosen (z .counts .tasks) (λ i. runnable (taskAt (z .tasks) i)) (z .places) (z .tasks) (step day k s .answer .running)
 
 -- The kernel is as it was, and all sets are empty.
 pub record Untouched (k : State) (s : Stepped) : Type 0 where

@@ -8,11 +8,15 @@ use Rattle.task.specs.declared.Task.{Task}
 use Rattle.machine.specs.declared.State.{State}
 use Rattle.machine.specs.declared.Running.{Running}
 use Rattle.machine.specs.declared.Running.the-variants.{Idle, Runs}
-use Rattle.machine.specs.State.{mostTasks, taskAt}
+use Rattle.machine.specs.State.{taskAt, placeAt}
 
--- The order of urgency as one number, smaller first: current priority, then task number.
-unfoldable pub urgency : List Task → ℕ → ℕ
-urgency ts i = mostTasks * taskAt ts i .current + i
+-- A place is a byte.
+abbrev pub mostPlaces : ℕ
+mostPlaces = 256
+
+-- The order of urgency as one number, smaller first: current priority, then place in the order of events.
+unfoldable pub urgency : List ℕ → List Task → ℕ → ℕ
+urgency ps ts i = mostPlaces * taskAt ts i .current + placeAt ps i
 
 abbrev pub better : (ℕ → ℕ) → Running → ℕ → Running
 better u Idle n = Runs n
@@ -24,11 +28,11 @@ mostUrgent zero test u = Idle
 mostUrgent (suc n) test u = cond (test n) (better u (mostUrgent n test u) n) (mostUrgent n test u)
 
 -- The running task among the first n: the most urgent runnable one, or none.
-unfoldable pub runningOf : ℕ → List Task → Running
-runningOf n ts = mostUrgent n (λ i. runnable (taskAt ts i)) (urgency ts)
+unfoldable pub runningOf : ℕ → List ℕ → List Task → Running
+runningOf n ps ts = mostUrgent n (λ i. runnable (taskAt ts i)) (urgency ps ts)
 
 abbrev pub runner : State → Running
-runner k = runningOf (k .counts .tasks) (k .tasks)
+runner k = runningOf (k .counts .tasks) (k .places) (k .tasks)
 
 abbrev pub someone : Running → Bool
 someone Idle = false

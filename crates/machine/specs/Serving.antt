@@ -20,8 +20,8 @@ pub record Served : Type 0 where
   pub granted : ℕ
 
 -- The most urgent task that waits on a list that could be granted, held or not.
-abbrev pub nextServed : ℕ → Served → Running
-nextServed n p = mostUrgent n (servable n (p .tasks) (p .locks)) (urgency (p .tasks))
+abbrev pub nextServed : ℕ → List ℕ → Served → Running
+nextServed n ps p = mostUrgent n (servable n (p .tasks) (p .locks)) (urgency ps (p .tasks))
 
 -- Task i is granted the whole list that it waits on.
 unfoldable pub grantTo : ℕ → Served → Served
@@ -33,6 +33,6 @@ grantTo i p =
     }
 
 -- While there is one to be served, the next is granted. Each grant ends a wait, so as many turns as tasks are enough.
-unfoldable pub serve : ℕ → ℕ → Served → Served
-serve n zero p = p
-serve n (suc turns) p = elim (nextServed n p) [ Idle ↦ p | Runs i ↦ serve n turns (grantTo i p) ]
+unfoldable pub serve : ℕ → List ℕ → ℕ → Served → Served
+serve n ps zero p = p
+serve n ps (suc turns) p = elim (nextServed n ps p) [ Idle ↦ p | Runs i ↦ serve n ps turns (grantTo i p) ]

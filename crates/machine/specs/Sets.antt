@@ -3,6 +3,7 @@ use mathlib.Core.Bool.{Bool, true, false}
 use mathlib.Core.List.{List, [], _∷_}
 use Prim.Native.Nat.{ℕ, _+_, _*_, _/_, _%_, _^_}
 use lib.Bits.{bitOr}
+use lib.Dec.{eqb}
 use Rattle.lock.specs.Locks.{bit}
 use Rattle.task.specs.declared.Marks.{Marks}
 use Rattle.machine.specs.declared.Sets.{Sets}
@@ -10,6 +11,10 @@ use Rattle.machine.specs.declared.Sets.{Sets}
 -- 1 where task i is in the set n, else 0.
 unfoldable pub has : ℕ → ℕ → ℕ
 has i n = n / 2 ^ i % 2
+
+-- Whether it is.
+abbrev pub holds : ℕ → ℕ → Bool
+holds i n = eqb (has i n) 1
 
 -- Task i alone, or the empty set.
 abbrev pub only : ℕ → Bool → ℕ

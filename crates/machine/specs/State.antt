@@ -37,6 +37,10 @@ mostInterrupts = 8
 abbrev pub taskAt : List Task → ℕ → Task
 taskAt ts i = getD ts i noTask
 
+-- The place of task i in the order of events.
+abbrev pub placeAt : List ℕ → ℕ → ℕ
+placeAt ps i = getD ps i 0
+
 abbrev pub enabledAt : State → ℕ → Bool
 enabledAt k i = getD (k .enabled) i false
 
@@ -76,6 +80,7 @@ unfoldable pub nothing : State
 nothing =
     record {
       tasks = replicate mostTasks vacant;
+      places = replicate mostTasks 0;
       locks = record { semaphores = replicate mostSemaphores 0; bolts = replicate mostBolts emptyBolt };
       enabled = replicate mostInterrupts false;
       counts = record { tasks = 0; semaphores = 0; bolts = 0; interrupts = 0 };
@@ -90,8 +95,22 @@ abbrev pub withState : List Task → Locks → List Bool → State → State
 withState ts r is k =
     record {
       tasks = ts;
+      places = k .places;
       locks = r;
       enabled = is;
+      counts = k .counts;
+      clock = k .clock;
+      now = k .now;
+      begun = k .begun;
+    }
+
+abbrev pub withPlaces : List ℕ → State → State
+withPlaces ps k =
+    record {
+      tasks = k .tasks;
+      places = ps;
+      locks = k .locks;
+      enabled = k .enabled;
       counts = k .counts;
       clock = k .clock;
       now = k .now;
@@ -102,6 +121,7 @@ abbrev pub withCounts : Counts → State → State
 withCounts n k =
     record {
       tasks = k .tasks;
+      places = k .places;
       locks = k .locks;
       enabled = k .enabled;
       counts = n;
@@ -114,6 +134,7 @@ abbrev pub withClock : ℕ → State → State
 withClock t k =
     record {
       tasks = k .tasks;
+      places = k .places;
       locks = k .locks;
       enabled = k .enabled;
       counts = k .counts;
@@ -127,6 +148,7 @@ abbrev pub begunAt : Instant → State → State
 begunAt n k =
     record {
       tasks = k .tasks;
+      places = k .places;
       locks = k .locks;
       enabled = k .enabled;
       counts = k .counts;

@@ -12,10 +12,11 @@ use Rattle.machine.specs.declared.Running.the-variants.{Idle}
 use Rattle.machine.specs.declared.Answer.{Answer}
 use Rattle.machine.specs.declared.Stepped.{Stepped}
 use Rattle.machine.specs.Sets.{noSets, withGranted}
-use Rattle.machine.specs.State.{withState, begunAt}
+use Rattle.machine.specs.State.{withState, withPlaces, begunAt}
 use Rattle.machine.specs.Running.{runningOf, runner}
 use Rattle.machine.specs.Work.{Work}
 use Rattle.machine.specs.Serving.{serve}
+use Rattle.machine.specs.Places.{event, moved}
 use Rattle.machine.specs.Test.{valid}
 use Rattle.machine.specs.Sorts.{declares}
 use Rattle.machine.specs.Refusals.{formalRefusal, admitted, stateRefusal}
@@ -29,16 +30,19 @@ plainAnswer n r = record { number = n; running = r; sets = noSets }
 unfoldable pub refuse : State → ℕ → Running → Stepped
 refuse k n r = record { state = k; answer = plainAnswer n r }
 
--- Every accepted call ends so: the waiting tasks are served, and the running task is found.
+-- Every accepted call ends so: the waiting tasks are served, those with an event go to the end of the order, and the
+-- running task is found.
 unfoldable pub finish : State → Work → Stepped
 finish k w =
-    let p = serve (k .counts .tasks) (k .counts .tasks) (record { tasks = w .tasks; locks = w .locks; granted = w .sets .granted }) in
+    let n = k .counts .tasks in
+    let p = serve n (k .places) n (record { tasks = w .tasks; locks = w .locks; granted = w .sets .granted }) in
+    let ps = moved n (event (k .tasks) (p .tasks) (w .sets .started)) (k .places) in
     record {
-      state = begunAt (w .now) (withState (p .tasks) (p .locks) (w .enabled) k);
+      state = begunAt (w .now) (withPlaces ps (withState (p .tasks) (p .locks) (w .enabled) k));
       answer =
           record {
             number = 0;
-            running = runningOf (k .counts .tasks) (p .tasks);
+            running = runningOf n ps (p .tasks);
             sets = withGranted (p .granted) (w .sets);
           };
     }

@@ -1,7 +1,8 @@
 -- The kernel test: what passes it isn't refused with 1. Places beyond the counts aren't looked at.
 use mathlib.Core.Bool.{Bool, true, not, _&&_, _||_}
+use mathlib.Core.List.{List}
 use Prim.Native.Nat.{ℕ}
-use lib.Dec.{leb, ltb}
+use lib.Dec.{leb, ltb, eqb}
 use Rattle.calendar.specs.Limits.{longestDuration, lastInstant, mostInstant, isTimeOfDay, isDuration, isPeriod}
 use Rattle.calendar.specs.declared.Instant.{Instant}
 use Rattle.calendar.specs.declared.End.{End}
@@ -23,7 +24,7 @@ use Rattle.task.specs.declared.Task.{Task}
 use Rattle.machine.specs.declared.Counts.{Counts}
 use Rattle.machine.specs.declared.State.{State}
 use Rattle.machine.specs.Sums.{allBelow}
-use Rattle.machine.specs.State.{mostTasks, mostSemaphores, mostBolts, mostInterrupts, taskAt, countOf}
+use Rattle.machine.specs.State.{mostTasks, mostSemaphores, mostBolts, mostInterrupts, taskAt, placeAt, countOf}
 use Rattle.machine.specs.Granting.{servable}
 
 -- ---- limits
@@ -113,6 +114,10 @@ countsOk n =
 unfoldable pub nobodyServable : State → Bool
 nobodyServable k = allBelow (k .counts .tasks) (λ i. not (servable (k .counts .tasks) (k .tasks) (k .locks) i))
 
+-- Each of n tasks has a place below n, and none that a task before it has.
+unfoldable pub placesOk : ℕ → List ℕ → Bool
+placesOk n ps = allBelow n (λ i. ltb (placeAt ps i) n && allBelow i (λ j. not (eqb (placeAt ps j) (placeAt ps i))))
+
 unfoldable pub valid : ℕ → State → Bool
 valid day k =
     leb (k .now .0) lastInstant
@@ -121,4 +126,5 @@ valid day k =
     && allBelow (k .counts .semaphores) (λ s. leb (valueAt (k .locks) s) mostValue)
     && allBelow (k .counts .bolts) (λ b. leb (boltAt (k .locks) b .readers) mostValue)
     && allBelow (k .counts .tasks) (λ i. taskOk day (k .counts) (taskAt (k .tasks) i))
+    && placesOk (k .counts .tasks) (k .places)
     && nobodyServable k

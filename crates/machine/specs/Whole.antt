@@ -2,7 +2,8 @@
 use mathlib.Core.Path.{_≡_}
 use mathlib.Core.Logic.{_≢_}
 use mathlib.Core.Bool.{Bool, true, false}
-use Prim.Native.Nat.{ℕ, _≤_, _<_, _^_}
+use mathlib.Core.List.{List}
+use Prim.Native.Nat.{ℕ, _<_, _^_}
 use lib.ListN.{set}
 use Rattle.record.specs.Refusals.{named}
 use Rattle.layout.specs.declared.Call.{Call}
@@ -13,14 +14,14 @@ use Rattle.machine.specs.declared.State.{State}
 use Rattle.machine.specs.declared.Running.the-variants.{Runs}
 use Rattle.machine.specs.declared.Sort.the-variants.{ListAsked}
 use Rattle.machine.specs.Sets.{put}
-use Rattle.machine.specs.State.{mostTasks, taskAt}
+use Rattle.machine.specs.State.{taskAt}
 use Rattle.machine.specs.Sorts.{sortOf}
 use Rattle.machine.specs.Running.{runner}
 use Rattle.machine.specs.Granting.{couldBeGranted, servable}
 use Rattle.machine.specs.Work.{Work}
 use Rattle.machine.specs.Serving.{Served, grantTo, serve}
 use Rattle.machine.specs.Calls.{workOf}
-use Rattle.machine.specs.Promises.{First}
+use Rattle.machine.specs.Promises.{First, AreBytes}
 
 -- ---- RQ, TR, RS and ET
 
@@ -62,12 +63,12 @@ pub record Grants (i : ℕ) (p q : Served) : Type 0 where
   pub granted : q .granted ≡ put i (p .granted)
 
 -- While some waiting task's list could be granted, the first such is granted it; then nobody waits on such a list.
-pub data Loop (n : ℕ) : Served → Served → Type 0 where
-  stop : {p : Served} → ((i : ℕ) → i < n → servable n (p .tasks) (p .locks) i ≡ false) → Loop n p p
-  next : {p q : Served} (i : ℕ) → First n (servable n (p .tasks) (p .locks)) (p .tasks) i → Grants i p (grantTo i p)
-      → Loop n (grantTo i p) q
-      → Loop n p q
+pub data Loop (n : ℕ) (ps : List ℕ) : Served → Served → Type 0 where
+  stop : {p : Served} → ((i : ℕ) → i < n → servable n (p .tasks) (p .locks) i ≡ false) → Loop n ps p p
+  next : {p q : Served} (i : ℕ) → First n (servable n (p .tasks) (p .locks)) ps (p .tasks) i → Grants i p (grantTo i p)
+      → Loop n ps (grantTo i p) q
+      → Loop n ps p q
 
 -- As many turns as tasks are enough.
 abbrev pub ServesAll : Type 0
-ServesAll = (n : ℕ) (p : Served) → n ≤ mostTasks → Loop n p (serve n n p)
+ServesAll = (n : ℕ) (ps : List ℕ) (p : Served) → AreBytes n ps → Loop n ps p (serve n ps n p)

@@ -155,7 +155,7 @@ pub record WriterCases : Type 0 where
       ∷ line 0 (Runs 2) 0 0 0 0 8 ∷ line 0 (Runs 3) 0 0 4 0 0
       ∷ line 0 (Runs 3) 0 0 0 0 16
       ∷ []
-  -- Of a reader and a writer as urgent the writer is served, though its number is larger; then the reader.
+  -- Of a reader and a writer as urgent the writer is served, though it asked later; then the reader, who stands behind it.
   pub tie : answers
       (declareTask 9 ∷ declareTask 5 ∷ declareTask 5 ∷ declareBolt
       ∷ activate 0 ∷ reserve (0 ∷ []) ∷ activate 1 ∷ enter (0 ∷ []) ∷ activate 2 ∷ reserve (0 ∷ [])
@@ -165,7 +165,7 @@ pub record WriterCases : Type 0 where
       ∷ line 0 (Runs 1) 2 2 0 0 0 ∷ quiet (Runs 0)
       ∷ line 0 (Runs 2) 4 4 0 0 0 ∷ quiet (Runs 0)
       ∷ line 0 (Runs 2) 0 0 0 0 4
-      ∷ line 0 (Runs 1) 0 0 0 0 2
+      ∷ line 0 (Runs 2) 0 0 0 0 2
       ∷ []
   -- ---- refusal 1
   -- A reader may wait behind the writer. Where it is more urgent, or the writer less, its list could be granted.

@@ -9,6 +9,9 @@ pub const MOST_TASKS: u8 = 32;
 
 pub const MOST_INTERRUPTS: u8 = 8;
 
+// A number for each task.
+pub type Places = [u8; MOST_TASKS as usize];
+
 // What a mark is about.
 pub enum Sort {
     // DT, DS, DB, IT, DC
@@ -44,6 +47,8 @@ pub struct Counts {
 
 pub struct State {
     pub tasks: [Task; MOST_TASKS as usize],
+    // Of each task its place in the order of events.
+    pub places: Places,
     pub locks: Locks,
     pub enabled: [bool; MOST_INTERRUPTS as usize],
     pub counts: Counts,

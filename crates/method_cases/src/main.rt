@@ -159,6 +159,30 @@ fn beyond_limits() {
     show(Kernel { state: k }.tick());
 }
 
+// Places written into a kernel with two equal tasks: one taken twice, one out of range, one of an undeclared task, and
+// both exchanged.
+fn other_places() {
+    let mut kernel = Kernel::fresh();
+    kernel = show(kernel.declare_task(5));
+    kernel = show(kernel.declare_task(5));
+    kernel = show(kernel.activate(0, 0, start(0, 0)));
+    kernel = show(kernel.activate(1, 0, start(0, 0)));
+    let mut k = kernel.state;
+    k.places[1] = 0;
+    kernel = show(Kernel { state: k }.tick());
+    k = kernel.state;
+    k.places[1] = 2;
+    kernel = show(Kernel { state: k }.tick());
+    k = kernel.state;
+    k.places[1] = 1;
+    k.places[2] = 1;
+    kernel = show(Kernel { state: k }.tick());
+    k = kernel.state;
+    k.places[0] = 1;
+    k.places[1] = 0;
+    show(Kernel { state: k }.tick());
+}
+
 // A schedule that no call leaves and that passes the test: its next due after its last, an end and no period. The
 // current priority of its task, which is terminated, isn't the declared one.
 fn odd_schedule() {
@@ -262,4 +286,5 @@ fn main() {
     stored_ends();
     continuations();
     odd_continuations();
+    other_places();
 }

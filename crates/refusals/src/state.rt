@@ -15,8 +15,8 @@ use lock::Wait;
 use lock::Way;
 use machine::Running;
 use machine::Sort;
-use survey::scan::is_someone;
 use task::Task;
+use urgency::scan::is_someone;
 
 // A refusal unless a test holds, else what the next tests give.
 fn unless(ok: bool, number: u8, rest: u8) -> u8

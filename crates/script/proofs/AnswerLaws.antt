@@ -111,7 +111,7 @@ module _ (k : State) where
           running = running-byte (finish k w .answer .running) (runner-below (finish k w .state));
           sets =
               each-regranted Word (w .sets) _ s
-              (serve-keeps (k .counts .tasks) (λ (p : Served). Word (p .granted))
+              (serve-keeps (k .counts .tasks) (k .places) (λ (p : Served). Word (p .granted))
               (λ p j l e h. unfold grantTo in put-lt 32 j (p .granted) (omega arith) h) (k .counts .tasks) _ (s Granted));
         }
 

@@ -180,7 +180,7 @@ module _ {bytes before : List ℕ} {start : State} {ok : Bool} {buffer : List �
           (sym (quiet-step day k (g .tables .tasks) (good o) (s 1 j .1) (omega arith))) in
           let v : valid day (z .state) ≡ true = still-valid day k (plus (k .now) (duration 1)) (omega arith) (omega arith) (good o) in
           turned z m w n b
-          (record { tasks = g .tables .tasks; semaphores = g .tables .semaphores; bolts = g .tables .bolts; enabled = g .tables .enabled })
+          (record { tasks = g .tables .tasks; places = g .tables .places; semaphores = g .tables .semaphores; bolts = g .tables .bolts; enabled = g .tables .enabled })
           (o ∙ sym v) (g .runs)
           (λ _ d l. let p = s (suc d) (omega arith) in (omega arith, λ c m x a b. p .1 c m x (omega arith) (omega arith)))
 

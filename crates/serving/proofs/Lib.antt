@@ -1,5 +1,4 @@
 -- Laws that the proofs of the code share.
-pub mod WaitLaws
-pub mod ServeLaws
 pub mod TurnCases
 pub mod AskLaws
+pub mod EndLaws

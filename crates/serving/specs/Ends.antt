@@ -1,22 +1,27 @@
--- Names for contracts: what serving sees of a kernel, and how a call ends.
+-- Names for contracts: how a call ends.
+use mathlib.Core.Path.{_≡_}
+use mathlib.Core.List.{List}
 use Prim.Native.Nat.{ℕ}
+use Rattle.task.specs.declared.Task.{Task}
 use Rattle.machine.specs.State.{withState}
 use Rattle.machine.specs.Work.{Work}
-use Rattle.machine.specs.Serving.{Served, serve}
 use Rattle.machine.specs.declared.Answer.{Answer}
 use Rattle.machine.specs.declared.Running.{Running}
 use Rattle.machine.specs.declared.State.{State}
 use Rattle.machine.specs.declared.Sets.{Sets}
+use Rattle.urgency.specs.Standing.{Scanned}
+use Rattle.waiters.specs.Served.{withServed, servedOf}
+use Rattle.serving.specs.declared.ends.Round.{Round}
 
--- What serving sees of a kernel, and the kernel that it leaves.
-abbrev pub served : State → ℕ → Served
-served k g = record { tasks = k .tasks; locks = k .locks; granted = g }
+-- The kernel and the grants that serving leaves, and what a scan of that kernel finds.
+pub record Rounded (k : State) (g late : ℕ) (r : Round) : Type 0 where
+  pub state : r .state ≡ withServed (servedOf k g) k
+  pub granted : r .granted ≡ servedOf k g .granted
+  pub scan : Scanned (r .state) late (r .scan)
 
-abbrev pub withServed : Served → State → State
-withServed p k = withState (p .tasks) (p .locks) (k .enabled) k
-
-unfoldable pub servedOf : State → ℕ → Served
-servedOf k g = serve (k .counts .tasks) (k .counts .tasks) (served k g)
+-- The kernel before the call, as far as its end looks at it: its tasks were ts.
+abbrev pub asBefore : List Task → State → State
+asBefore ts k = withState ts (k .locks) (k .enabled) k
 
 -- The work that a kernel has had done, with the sets that it marked.
 abbrev pub workHere : State → Sets → Work

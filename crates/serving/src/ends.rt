@@ -1,125 +1,45 @@
-// Serving, and what ends every accepted call; of ticks, those after which somebody may have to be served.
+// What ends every accepted call; of ticks, those after which somebody may have to be served.
 ghost use mathlib.Core.Path.{_≡_};
 ghost use mathlib.Core.Bool.{true};
-ghost use Prim.Native.Nat.{_<_};
-ghost use Rattle.machine.specs.Granting.{servable};
-ghost use Rattle.machine.specs.Serving.{nextServed, grantTo};
+ghost use mathlib.Core.List.{List};
+ghost use Rattle.task.specs.declared.Task.{Task};
 ghost use Rattle.machine.specs.Sets.{noSets};
 ghost use Rattle.machine.specs.State.{begunAt};
+ghost use Rattle.machine.specs.Test.{placesOk};
 ghost use Rattle.machine.specs.Step.{plainAnswer, finish, refuse};
 ghost use Rattle.machine.specs.Work.{onlyEnabled};
 ghost use Rattle.survey.specs.Looks.{waitsOk};
-ghost use Rattle.serving.specs.Ends.{served, withServed, servedOf, workHere, answerOf};
+ghost use Rattle.urgency.specs.Standing.{Turned};
+ghost use Rattle.serving.specs.Ends.{Rounded, asBefore, workHere, answerOf};
 use calendar::Instant;
-use granting::is_available;
-use granting::is_missing;
-use granting::no_writers;
-use granting::writers_of;
-use lock::Way;
 use lock::is_waiting;
 use machine::Answer;
 use machine::Running;
 use machine::Sets;
 use machine::State;
 use machine::Stepped;
-use survey::scan::can_run;
-use survey::scan::is_someone;
-use survey::scan::no_lead;
-use survey::scan::places;
-use survey::scan::running;
-use survey::scan::urgency_of;
-use survey::sets::put_task;
+use order::events_of;
+use order::late_of;
+use order::moved;
+use urgency::scan::Scan;
+use urgency::scan::can_run;
+use urgency::scan::in_table;
+use urgency::scan::is_someone;
+use urgency::scan::no_lead;
+use urgency::scan::place_if;
+use urgency::scan::scanned;
+use urgency::sets::Standing;
+use urgency::sets::is_in;
+use urgency::sets::nobody_turned;
+use urgency::sets::put_if;
+use waiters::next_served;
+use waiters::serve;
 
-// A kernel whose waiting tasks have been served, and who was granted.
-pub struct Serviced {
+// A kernel whose waiting tasks have been served, who was granted, and what a scan of its tasks finds.
+pub struct Round {
     pub state: State,
     pub granted: u32,
-}
-
-// The most urgent task that waits on a list that could be granted, held or not. A task is given up at the first
-// number of its list that isn't there for it.
-fn next_served(k: State) -> Running
-    requires { ⌜ waitsOk k ≡ true ⌝ }
-    ensures { λ r. ⌜ r ≡ nextServed (k .counts .tasks) (served k 0) ⌝ }
-{
-    let counts = k.counts;
-    let n = counts.tasks as usize;
-    let locks = k.locks;
-    let mut writers = no_writers();
-    let mut lead = no_lead();
-    'tasks: for i in 0..n {
-        let t = k.tasks[i];
-        let wait = t.wait;
-        if !is_waiting(wait) {
-            continue 'tasks;
-        }
-        let priority = k.tasks[i].current;
-        let u = urgency_of(priority, i);
-        if lead.urgency <= u {
-            continue 'tasks;
-        }
-        let m = k.tasks[i].len as usize;
-        let t = k.tasks[i];
-        let list = t.list;
-        if is_missing(writers.known, wait) {
-            writers = writers_of(k);
-        }
-        for j in 0..m {
-            let x = list[j] as usize;
-            let b = locks.bolts[x];
-            if !is_available(locks.semaphores[x], b, writers.first[x], priority, wait) {
-                continue 'tasks;
-            }
-        }
-        lead = lead.against(u, i);
-    }
-    lead.who()
-}
-
-// Task i is granted the whole list that it waits on.
-fn grant_to(mut k: State, i: usize) -> State
-    requires { ⌜ waitsOk k ≡ true ⌝ }
-    requires { ⌜ i < k .counts .tasks ⌝ }
-    requires { ⌜ servable (k .counts .tasks) (k .tasks) (k .locks) i ≡ true ⌝ }
-    ensures { λ r. ⌜ r ≡ withServed (grantTo i (served k 0)) k ⌝ }
-{
-    let t = k.tasks[i];
-    let wait = t.wait;
-    let list = t.list;
-    let m = t.len as usize;
-    let locks = k.locks;
-    let left = locks.move_all(Way::Take, wait, m, list);
-    let over = t.awake();
-    k.locks = left;
-    k.tasks[i] = over;
-    k
-}
-
-// While there is one to be served, the next is granted. Each grant ends a wait, so as many turns as tasks are enough.
-fn serve(k: State, granted: u32) -> Serviced
-    requires { ⌜ waitsOk k ≡ true ⌝ }
-    ensures { λ r. ⌜ (r .state ≡ withServed (servedOf k granted) k) × (r .granted ≡ servedOf k granted .granted) ⌝ }
-{
-    let counts = k.counts;
-    let turns = counts.tasks as usize;
-    let mut now = k;
-    let mut g = granted;
-    for turn in 0..turns {
-        let next = next_served(now);
-        let Running::Runs(i) = next else {
-            return Serviced {
-                state: now,
-                granted: g,
-            };
-        };
-        let at = i as usize;
-        now = grant_to(now, at);
-        g = put_task(at, g);
-    }
-    Serviced {
-        state: now,
-        granted: g,
-    }
+    pub scan: Scan,
 }
 
 // The kernel after an accepted call, at instant n.
@@ -162,57 +82,80 @@ pub fn plain(number: u8, running: Running) -> Answer
     answer_of(number, running, no_sets())
 }
 
-// The end of a call after which some task waits: it may have to be served.
-fn finished_serving(k: State, m: Sets) -> Stepped
+// A kernel whose waiting tasks have been served, and what a scan finds then, with the runnable ones of late behind all
+// others of their priority.
+fn served_and_scanned(k: State, granted: u32, late: u32) -> Round
     requires { ⌜ waitsOk k ≡ true ⌝ }
-    ensures { λ r. ⌜ r ≡ finish k (workHere k m) ⌝ }
+    ensures { λ r. ⌜ Rounded k granted late r ⌝ }
 {
-    let s = serve(k, m.granted);
-    let granted = s.granted;
-    let next = s.state;
-    let runner = running(next);
-    Stepped {
-        state: begun_at(next, k.now),
-        answer: answer_of(0, runner, Sets { granted, ..m }),
+    let s = serve(k, granted);
+    let state = s.state;
+    let scan = scanned(state, late);
+    Round {
+        state,
+        granted: s.granted,
+        scan,
     }
 }
 
-// So an accepted call ends. The kernel has had its work done, and the sets say whom it marked. Where nobody waits or
-// none that waits could be granted, there is nobody to serve.
-pub fn finished(k: State, m: Sets) -> Stepped
+// So an accepted call ends. The kernel has had its work done, the sets say whom it marked, and turned for whom it has
+// changed whether he is runnable or waits. Where nobody waits, there is nobody to serve. All calls end at one place: a
+// second one would cost each of them a copy of the kernel.
+pub fn finished(mut k: State, m: Sets, turned: Standing) -> Stepped
     requires { ⌜ waitsOk k ≡ true ⌝ }
-    ensures { λ r. ⌜ r ≡ finish k (workHere k m) ⌝ }
+    requires { ⌜ placesOk (k .counts .tasks) (k .places) ≡ true ⌝ }
+    ensures { λ r. ⌜ ((ts : List Task) → Turned (k .counts .tasks) ts (k .tasks) turned → r ≡ finish (asBefore ts k) (workHere k m)) ⌝ }
 {
     let counts = k.counts;
-    let n = places(counts.tasks);
+    let n = in_table(counts.tasks);
+    let late = turned.runnable | m.started;
     let mut lead = no_lead();
-    let mut waits = false;
+    let mut runnable = 0;
+    let mut waiting = 0;
     for i in 0..n {
         let t = k.tasks[i];
         let wait = t.wait;
         let hold = t.hold;
         let runs = can_run(k.tasks[i].alive, wait, hold);
-        waits = waits | is_waiting(wait);
-        lead = lead.against_if(runs, k.tasks[i].current, i);
+        runnable = put_if(i, runs, runnable);
+        waiting = put_if(i, is_waiting(wait), waiting);
+        lead = lead.against_if(
+            runs,
+            k.tasks[i].current,
+            place_if(is_in(i, late), k.places[i]),
+            i,
+        );
     }
-    if waits {
-        if is_someone(next_served(k)) {
-            return finished_serving(k, m);
-        }
+    let mut after = Standing { runnable, waiting };
+    let before = after.turned_back(turned);
+    let mut granted = m.granted;
+    let mut is_due = false;
+    if waiting != 0 {
+        is_due = is_someone(next_served(k));
     }
-    let runner = lead.who();
+    if is_due {
+        let r = served_and_scanned(k, granted, late_of(before, m.started));
+        let scan = r.scan;
+        k = r.state;
+        granted = r.granted;
+        lead = scan.lead;
+        after = scan.standing;
+    }
+    let places = moved(k.places, counts.tasks, events_of(before, after, m.started));
+    k.places = places;
     Stepped {
         state: begun_at(k, k.now),
-        answer: answer_of(0, runner, m),
+        answer: answer_of(0, lead.who(), Sets { granted, ..m }),
     }
 }
 
 // A call without effect ends.
 pub fn done(k: State) -> Stepped
     requires { ⌜ waitsOk k ≡ true ⌝ }
+    requires { ⌜ placesOk (k .counts .tasks) (k .places) ≡ true ⌝ }
     ensures { λ s. ⌜ s ≡ finish k (onlyEnabled k (k .enabled)) ⌝ }
 {
-    finished(k, no_sets())
+    finished(k, no_sets(), nobody_turned())
 }
 
 // An answer with empty sets.

@@ -21,9 +21,9 @@ use Rattle.lock.proofs.Rests.{slice-next}
 use Rattle.task.specs.State.{restOk, wanted}
 use Rattle.task.specs.declared.Task.{Task}
 use Rattle.machine.specs.State.{mostTasks, taskAt, countOf}
-use Rattle.machine.specs.Granting.{couldBeGranted}
+use Rattle.machine.specs.Granting.{couldBeGranted, servable}
 use Rattle.machine.specs.Sums.{allBelow}
-use Rattle.machine.specs.Test.{between, isPriority, keptOk, holdOk, waitOk, scheduleOk, continuationOk, taskOk, countsOk, nobodyServable, valid}
+use Rattle.machine.specs.Test.{between, isPriority, keptOk, holdOk, waitOk, scheduleOk, continuationOk, taskOk, countsOk, nobodyServable, valid, placesOk}
 use Rattle.machine.specs.declared.Counts.{Counts}
 use Rattle.machine.specs.declared.State.{State}
 use Rattle.machine.proofs.Below.{all-at}
@@ -137,6 +137,16 @@ wait-of day n t e =
     let r = isPriority (t .declared) && isPriority (t .current) && keptOk (t .kept) && holdOk (t .hold) && restOk t in
     both r (waitOk n t) (both (r && waitOk n t) s (both (r && waitOk n t && s) g e .0) .0) .1
 
+and-last : (a b c : Bool) → (a && b && c) ≡ (a && c && b)
+and-last true b c = and-swap b c
+  where
+    and-swap : (b c : Bool) → (b && c) ≡ (c && b)
+    and-swap true true = refl
+    and-swap true false = refl
+    and-swap false true = refl
+    and-swap false false = refl
+and-last false b c = refl
+
 abbrev pub fitAt : ℕ → State → ℕ → Bool
 fitAt day k i = fit day (k .counts) (k .tasks) (k .locks) (taskAt (k .tasks) i)
 
@@ -156,8 +166,15 @@ module _ (day : ℕ) (k : State) {o c : Bool} (clock : o ≡ isTimeOfDay day (k 
     pub tasks-fit : k .counts .tasks ≤ mostTasks
     tasks-fit = counts-fit (k .counts) counted .tasks
 
-    pub all-fit : Owned k → allBelow (k .counts .tasks) (fitAt day k) ≡ valid day k
+    pub all-fit : Owned k → (allBelow (k .counts .tasks) (fitAt day k) && placesOk (k .counts .tasks) (k .places)) ≡ valid day k
     unfolding valid nobodyServable fit
     all-fit g =
-        rw (← clock, ← counts, in-range, values-small k g (k .counts .semaphores), readers-small k g (k .counts .bolts))
-        (sym (all-both (k .counts .tasks) (λ i. taskOk day (k .counts) (taskAt (k .tasks) i)) _))
+        rw (
+          ← clock,
+          ← counts,
+          in-range,
+          values-small k g (k .counts .semaphores),
+          readers-small k g (k .counts .bolts),
+          ← all-both (k .counts .tasks) (λ i. taskOk day (k .counts) (taskAt (k .tasks) i)) (λ i. not (servable (k .counts .tasks) (k .tasks) (k .locks) i)),
+        )
+        (and-last (allBelow (k .counts .tasks) (λ i. taskOk day (k .counts) (taskAt (k .tasks) i))) _ (placesOk (k .counts .tasks) (k .places)))

@@ -8,9 +8,7 @@ use Rattle.lock.specs.declared.Locks.{Locks}
 use Rattle.lock.specs.declared.Wait.{Wait}
 use Rattle.task.specs.State.{unheld, wanted}
 use Rattle.task.specs.declared.Hold.{Hold}
-use Rattle.task.specs.declared.Marks.{Marks}
 use Rattle.task.specs.declared.Task.{Task}
-use Rattle.machine.specs.Sets.{put, mark, members, eachSet}
 use Rattle.machine.specs.State.{taskAt}
 use Rattle.machine.specs.Granting.{couldBeGranted}
 use Rattle.machine.specs.NextEvent.{nextEvent}
@@ -18,7 +16,6 @@ use Rattle.machine.specs.Running.{runner}
 use Rattle.machine.specs.Sums.{allBelow}
 use Rattle.machine.specs.Test.{countsOk, holdOk, waitOk, valid}
 use Rattle.machine.specs.declared.Counts.{Counts}
-use Rattle.machine.specs.declared.Sets.{Sets}
 use Rattle.machine.specs.declared.State.{State}
 use Rattle.machine.specs.declared.Running.the-variants.{Idle}
 use Rattle.survey.specs.declared.Survey.{Survey}
@@ -26,15 +23,6 @@ use Rattle.survey.specs.declared.Survey.{Survey}
 -- The counts are in range, and each wait's list names one to four declared numbers, none twice.
 unfoldable pub waitsOk : State → Bool
 waitsOk k = countsOk (k .counts) && allBelow (k .counts .tasks) (λ i. waitOk (k .counts) (taskAt (k .tasks) i))
-
--- The set n, and task i if b.
-abbrev pub putIf : ℕ → Bool → ℕ → ℕ
-putIf i true n = put i n
-putIf i false n = n
-
--- Task i is put into the sets that its marks name.
-abbrev pub putMarks : ℕ → Marks → Sets → Sets
-putMarks i m s = eachSet (λ x. putIf i (mark x m) (members x s))
 
 -- ---- one task
 

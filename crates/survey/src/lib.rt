@@ -1,8 +1,6 @@
-// The parts of a look at a kernel: of the kernel test, the next event and the running task.
+// The parts of a look at a kernel: of the kernel test, and the next event.
 pub mod check;
 pub mod next;
-pub mod scan;
-pub mod sets;
 
 use calendar::Moment;
 use machine::Running;

@@ -24,7 +24,7 @@ use Rattle.task.specs.declared.Turn.{Turn}
 use Rattle.task.proofs.Fairness.{rest-facts}
 use Rattle.task.proofs.Waits.{SameWait, NoNewWait, no-wait-tick, tick-keeps-wait}
 use Rattle.machine.specs.Sets.{setOf, mark, eachSet, noSets}
-use Rattle.machine.specs.State.{mostTasks, taskAt, enabledAt, withState, begunAt}
+use Rattle.machine.specs.State.{mostTasks, taskAt, enabledAt, withState, begunAt, withPlaces}
 use Rattle.machine.specs.Work.{onlyEnabled, turns, everyTurn}
 use Rattle.machine.specs.Running.{runner, runningOf}
 use Rattle.machine.specs.Serving.{nextServed}
@@ -42,13 +42,16 @@ use Rattle.machine.proofs.Passed.{parts, tested}
 use Rattle.machine.proofs.Works.{turn-at}
 use Rattle.machine.proofs.SetLaws.{members-each, each-same, setOf-lt}
 use Rattle.survey.proofs.TestLaws.{wait-of}
-use Rattle.survey.specs.Looks.{putIf, putMarks, waitsOk}
-use Rattle.serving.specs.Ends.{served, workHere, servedOf, answerOf}
+use Rattle.survey.specs.Looks.{waitsOk}
+use Rattle.urgency.specs.Puts.{putIf, putMarks}
+use Rattle.serving.specs.Ends.{workHere, answerOf, asBefore}
+use Rattle.waiters.specs.Served.{served, servedOf}
 use Rattle.machine.specs.declared.Sets.{Sets}
 use Rattle.serving.proofs.TurnCases.{sound}
 use Rattle.machine.specs.declared.Running.{Running}
 use Rattle.machine.specs.declared.Running.the-variants.{Idle}
-use Rattle.serving.proofs.ServeLaws.{served-idle}
+use Rattle.waiters.proofs.ServeLaws.{served-idle}
+use Rattle.machine.specs.Places.{event, moved}
 
 -- ---- a set with one more place
 
@@ -81,6 +84,12 @@ module _ (f : Task → Turn) where
   after-later (suc i) j [] h = refl
   after-later (suc i) zero (t ∷ ts) h = absurd (not-suc-le-zero h)
   after-later (suc i) (suc j) (t ∷ ts) h = after-later i j ts (omega arith)
+
+  after-long : (i : ℕ) (ts : List Task) → length (tasksAfter i ts) ≡ length ts
+  unfolding tasksAfter
+  after-long zero ts = refl
+  after-long (suc i) [] = refl
+  after-long (suc i) (t ∷ ts) = ap suc (after-long i ts)
 
   after-more : (i : ℕ) (ts : List Task) → i < length ts → set (tasksAfter i ts) i (f (taskAt ts i) .task) ≡ tasksAfter (suc i) ts
   unfolding tasksAfter
@@ -128,6 +137,9 @@ module _ (f : Task → Turn) (k : State) where
   made-all n e h =
       (h .state ∙ ap (λ (x : ℕ). withState (tasksAfter f x (k .tasks)) (k .locks) (k .enabled) k) e, h .sets ∙ ap (λ (x : ℕ). setsAfter f x (k .tasks)) e)
 
+  pub made-long : {i : ℕ} {next : State} {s : Sets} → Made f k i next s → length (next .tasks) ≡ length (k .tasks)
+  made-long {i} h = ap (λ (q : State). length (q .tasks)) (h .state) ∙ after-long f i (k .tasks)
+
   module _ (i : ℕ) (l : i < length (k .tasks)) {next : State} {s : Sets} (h : Made f k i next s) where
     pub task-now : taskAt (next .tasks) i ≡ taskAt (k .tasks) i
     task-now = ap (λ (q : State). taskAt (q .tasks) i) (h .state) ∙ after-later f i i (k .tasks) (omega arith)
@@ -165,7 +177,7 @@ abbrev pub everyDone : State → Instant → (Task → Turn) → State
 everyDone k n f = withState (everyTurn k n f .tasks) (k .locks) (k .enabled) k
 
 pub every-finish : (k : State) (f : Task → Turn) {next : State} {s : Sets}
-    → next ≡ everyDone k (k .now) f → s ≡ everyTurn k (k .now) f .sets → finish next (workHere next s) ≡ finish k (everyTurn k (k .now) f)
+    → next ≡ everyDone k (k .now) f → s ≡ everyTurn k (k .now) f .sets → finish (asBefore (k .tasks) next) (workHere next s) ≡ finish k (everyTurn k (k .now) f)
 unfolding finish everyTurn
 every-finish k f a b = rw (a, b)
 
@@ -229,7 +241,7 @@ alike t u k s =
 -- They leave nobody to serve, where nobody is altered.
 pub every-idle : (day : ℕ) (k : State) → valid day k ≡ true → length (k .tasks) ≡ mostTasks → (n : Instant) (f : Task → Turn)
     → ((t : Task) → TaskOk day (k .counts) t → KeepsWait t (f t .task)) → Steady f (k .tasks) (k .counts .tasks)
-    → nextServed (k .counts .tasks) (served (everyDone k n f) 0) ≡ Idle
+    → nextServed (k .counts .tasks) (k .places) (served (everyDone k n f) 0) ≡ Idle
 unfolding everyTurn
 every-idle day k v long n f keeps steady =
     let c = k .counts .tasks in
@@ -240,17 +252,21 @@ every-idle day k v long n f keeps steady =
     (λ j b. rw (turn-at c f (k .tasks) room j b) (alike (taskAt (k .tasks) j) (f (taskAt (k .tasks) j) .task) (keeps (taskAt (k .tasks) j) (task-untest day (k .counts) (taskAt (k .tasks) j) (all-at c _ (sound day k v .tasks) j b))) (steady j b))) i l)
     ∙ nobody-untest k (parts day k v .stuck) i l)
 
+-- Who has an event in a call in which every task has its turn, and where nobody is served.
+abbrev pub everyEvent : State → Instant → (Task → Turn) → ℕ → Bool
+everyEvent k n f = event (k .tasks) (everyTurn k n f .tasks) (everyTurn k n f .sets .started)
+
 -- The call ends at instant n where nobody is to be served once every task has had its turn.
-pub every-unserved : (k : State) (n : Instant) (f : Task → Turn) {next : State} {s : Sets} {r : Running}
-    → next ≡ everyDone k n f → s ≡ everyTurn k n f .sets
-    → nextServed (k .counts .tasks) (served (everyDone k n f) 0) ≡ Idle → r ≡ runningOf (k .counts .tasks) (everyTurn k n f .tasks)
-    → record { state = begunAt n next; answer = answerOf 0 r s } ≡ finish k (everyTurn k n f)
+pub every-unserved : (k : State) (n : Instant) (f : Task → Turn) {next now : State} {s : Sets} {ps : List ℕ} {r : Running}
+    → next ≡ everyDone k n f → s ≡ everyTurn k n f .sets → nextServed (k .counts .tasks) (k .places) (served (everyDone k n f) 0) ≡ Idle
+    → ps ≡ moved (k .counts .tasks) (everyEvent k n f) (k .places) → r ≡ runningOf (k .counts .tasks) ps (everyTurn k n f .tasks)
+    → now ≡ withPlaces ps next → record { state = begunAt n now; answer = answerOf 0 r s } ≡ finish k (everyTurn k n f)
 unfolding finish servedOf everyTurn
-every-unserved k n f a b h e = rw (a, b, e, served-idle (everyDone k n f) (everyTurn k n f .sets .granted) h)
+every-unserved k n f a b h o e q = rw (q, a, b, e, o, served-idle (everyDone k n f) (everyTurn k n f .sets .granted) h)
 
 -- Or where those who wait have been served at the instant before.
 pub every-served : (k : State) (n : Instant) (f : Task → Turn) {next : State} {s : Sets} {z : Stepped} {next′ : State} {s′ : Sets} {r : Running}
-    → next ≡ everyDone k n f → s ≡ everyTurn k n f .sets → z ≡ finish next (workHere next s)
+    → next ≡ everyDone k n f → s ≡ everyTurn k n f .sets → z ≡ finish (asBefore (k .tasks) next) (workHere next s)
     → next′ ≡ z .state → s′ ≡ z .answer .sets → r ≡ z .answer .running
     → record { state = begunAt n next′; answer = answerOf 0 r s′ } ≡ finish k (everyTurn k n f)
 unfolding finish everyTurn

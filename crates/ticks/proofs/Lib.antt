@@ -2,3 +2,4 @@
 pub mod StirLaws
 pub mod EveryTask
 pub mod TickRuns
+pub mod TickEnds

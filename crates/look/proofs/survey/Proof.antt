@@ -1,8 +1,8 @@
 -- Each task in its turn: one that isn't fit ends the look, and every other adds what comes to it and its urgency.
 use borrow.Author.Needs.{needs}
 use borrow.Author.Tests.{not-true, not-false}
-use mathlib.Core.Path.{_≡_, refl, sym, _∙_}
-use mathlib.Core.Bool.{true, false, _&&_}
+use mathlib.Core.Path.{_≡_, refl, sym, ap, _∙_}
+use mathlib.Core.Bool.{Bool, true, false, not, _&&_}
 use mathlib.Core.Logic.{⊎-elim}
 use Prim.Native.Nat.{_-_, _<_, _≤_}
 use native.Mathlib.Omega.{arith}
@@ -13,7 +13,7 @@ use Rattle.task.specs.Coming.{delayEnd}
 use Rattle.task.specs.declared.Task.{Task}
 use Rattle.machine.specs.State.{mostTasks, taskAt}
 use Rattle.machine.specs.Sums.{allBelow}
-use Rattle.machine.specs.Test.{mostPriority, isPriority, scheduleOk, continuationOk, countsOk, valid}
+use Rattle.machine.specs.Test.{mostPriority, isPriority, scheduleOk, continuationOk, countsOk, placesOk, valid}
 use Rattle.machine.specs.declared.State.{State}
 use Rattle.survey.specs.Looks.{atEase, unfit, surveyed}
 use Rattle.survey.specs.Next.{momentOf}
@@ -22,16 +22,16 @@ use Rattle.granting.proofs.Owned.{Owned, given-small}
 use Rattle.survey.proofs.TaskFit.{plan-none, continuation-none, no-start, Starts, start-none, start-kept, eased, odd-priority, odd-schedule, odd-continuation, odd-kept, odd-busy, fit-eased, fit-busy}
 use Rattle.survey.proofs.TestLaws.{fitAt, upto-fails, upto-all, out-of-range, counted, tasks-fit, all-fit}
 use Rattle.granting.proofs.WriterLaws.{known-none, ready-told, ready-known}
-use Rattle.look.proofs.Surveying.{Looked, sooner-more, sooner-same, led-eased, led-busy, looked-none, looked-next, looked-event, looked-runs, unfit-is, fit-is}
+use Rattle.look.proofs.Surveying.{Looked, sooner-more, sooner-same, led-eased, led-busy, looked-none, looked-next, looked-event, looked-places, looked-runs, unfit-is, fit-is}
 use Rattle.look.proofs.survey.Statement.{statement}
 use Rattle.look.proofs.survey.Tie as tie
 
 abbrev Inv-loop : tie.InvT-loop
-Inv-loop k counts now n locks writers₀ soonest₀ lead₀ i₀ writers soonest lead i =
-    Looked day k i soonest lead × Known (k .counts .tasks) (k .tasks) writers
+Inv-loop k counts now n locks writers₀ soonest₀ seen₀ lead₀ i₀ writers soonest seen lead i =
+    Looked day k i soonest seen lead × Known (k .counts .tasks) (k .tasks) writers
 
 abbrev μ-loop : tie.MeasureT-loop
-μ-loop k counts now n locks writers₀ soonest₀ lead₀ i₀ writers soonest lead i = n - i
+μ-loop k counts now n locks writers₀ soonest₀ seen₀ lead₀ i₀ writers soonest seen lead i = n - i
 
 -- ---- what is known on the way
 
@@ -50,14 +50,17 @@ few c = tasks-fit day (state c) (c .before .before .is-time-of-day .ensures) (c 
 known : (c : P) → countsOk (state c .counts) ≡ true
 known c = counted day (state c) (c .before .before .is-time-of-day .ensures) (c .before .are-counts-ok .ensures) (c .if1 .left)
 
-all : (c : P) → allBelow (state c .counts .tasks) (fitAt day (state c)) ≡ valid day (state c)
+abbrev places : P → Bool
+places c = placesOk (state c .counts .tasks) (state c .places)
+
+all : (c : P) → (allBelow (state c .counts .tasks) (fitAt day (state c)) && places c) ≡ valid day (state c)
 all c = all-fit day (state c) (c .before .before .is-time-of-day .ensures) (c .before .are-counts-ok .ensures) (c .if1 .left) (good c)
 
 abbrev I : Type 0
 I = tie.In-loop Inv-loop μ-loop
 
 abbrev passed : I → P
-passed c = c .before .before .before .before .before .before
+passed c = c .before .before .before .before .before .before .before
 
 abbrev one : I → Task
 one c = taskAt (state (passed c) .tasks) (c .before .loop .i)
@@ -70,10 +73,10 @@ small c = given-small (state (passed c)) (good (passed c)) (c .before .loop .i)
 
 -- A task that isn't fit ends the look.
 ends : (c : I) → fitAt day (state (passed c)) (c .before .loop .i) ≡ false → unfit ≡ surveyed day (state (passed c))
-ends c e = unfit-is day (state (passed c)) (upto-fails (c .before .loop .inv .0 .tasks) (c .loop-test .taken) e ∙ all (passed c))
+ends c e = unfit-is day (state (passed c)) (ap (λ b. b && places (passed c)) (upto-fails (c .before .loop .inv .0 .tasks) (c .loop-test .taken) e) ∙ all (passed c))
 
 abbrev here : tie.After-are-priorities Inv-loop μ-loop → I
-here c = c .before
+here c = c .before .before .before
 
 -- Where the continuation has been looked at.
 abbrev C : Type 0
@@ -204,23 +207,32 @@ cast-n c = search needs
 no-writers-requires : tie.Need-no-writers-requires Inv-loop μ-loop
 no-writers-requires c κs = search needs
 
+none-seen-requires : tie.Need-none-seen-requires Inv-loop μ-loop
+none-seen-requires c κs = search needs
+
 no-lead-requires : tie.Need-no-lead-requires Inv-loop μ-loop
 no-lead-requires c κs = search needs
 
 loop-holds : tie.Need-loop-holds Inv-loop μ-loop
-loop-holds c = (rw (c .no-lead .ensures) (looked-none day _), rw (c .before .no-writers .ensures) (known-none _ _))
+loop-holds c = (looked-none day _ (c .before .none-seen .ensures) (c .no-lead .ensures), rw (c .before .before .no-writers .ensures) (known-none _ _))
+
+element-copy-out-place : tie.Need-element-copy-out-place Inv-loop μ-loop
+element-copy-out-place c = room c
+
+with-requires : tie.Need-with-requires Inv-loop μ-loop
+with-requires c κs = search needs
 
 mul-current : tie.Need-mul-current Inv-loop μ-loop
-mul-current c = omega (arith, room c)
+mul-current c = omega (arith, room (c .before .before))
 
 element-copy-out-current : tie.Need-element-copy-out-current Inv-loop μ-loop
-element-copy-out-current c = omega (arith, room c)
+element-copy-out-current c = omega (arith, room (c .before .before))
 
 mul-are-priorities : tie.Need-mul-are-priorities Inv-loop μ-loop
-mul-are-priorities c = omega (arith, room c)
+mul-are-priorities c = omega (arith, room (c .before .before))
 
 element-copy-out-are-priorities : tie.Need-element-copy-out-are-priorities Inv-loop μ-loop
-element-copy-out-are-priorities c = omega (arith, room c)
+element-copy-out-are-priorities c = omega (arith, room (c .before .before))
 
 are-priorities-requires : tie.Need-are-priorities-requires Inv-loop μ-loop
 are-priorities-requires c κs = search needs
@@ -408,7 +420,8 @@ loop-again c =
       looked-next day k (l .inv .0) (i .loop-test .taken) (c .sooner-end .result)
           (fit-busy day (k .counts) (k .tasks) (k .locks) t (priorities (continued p)) (schedule p) (continuation (continued p)) (start u) (sym (tested .is-busy-ok .ensures (k .tasks) (ready (looked c) .1)) ∙ not-false _ (c .before .if11 .left)))
           (sooner-more (k .now) (delayEnd (t .hold)) (p .if5 .soonest) (starting p) {c = c .sooner-end .result} refl (c .sooner-end .ensures))
-          (led-busy (k .tasks) (l .i) (l .inv .0 .leads) (uneased c)),
+          (prior (continued p) .before .with .ensures)
+          (led-busy (k .places) (k .tasks) (l .i) (l .inv .0 .leads) (uneased c)),
       ready (looked c) .0,
     )
 
@@ -431,9 +444,39 @@ loop-again-2 c =
       looked-next day k (l .inv .0) (i .loop-test .taken) (p .if5 .soonest)
           (fit-eased day (k .counts) (k .tasks) (k .locks) t (priorities (continued p)) (schedule p) (continuation (continued p)) (start u) (at-ease c))
           (sooner-same (k .now) (delayEnd (t .hold)) (p .if5 .soonest) (starting p) refl (eased (t .wait) (t .hold) (at-ease c) .ends))
-          (led-eased (k .tasks) (l .i) (l .inv .0 .leads) (at-ease c) (c .against-if .ensures)),
+          (prior (continued p) .before .with .ensures)
+          (led-eased (k .places) (k .tasks) (l .i) (l .inv .0 .leads) (at-ease c) (c .against-if .ensures)),
       l .inv .1,
     )
+
+-- ---- the end
+
+-- All tasks were fit: what is left of the test is the places.
+abbrev L : Type 0
+L = tie.After-loop Inv-loop μ-loop
+
+abbrev whole : L → P
+whole e = e .before .before .before .before .before .before .before
+
+fitting : (e : L) → places (whole e) ≡ valid day (state (whole e))
+fitting e = ap (λ b. b && places (whole e)) (upto-all (e .before .loop .inv .0 .tasks) (e .loop-test .left)) ∙ all (whole e)
+
+wrong : (c : tie.After-are-wrong Inv-loop μ-loop) → c .are-wrong .result ≡ not (places (whole (c .before)))
+wrong c =
+    let k = state (whole (c .before)) in
+    c .are-wrong .ensures (k .places) (looked-places day k (c .before .before .loop .inv .0) (c .before .loop-test .left))
+
+are-wrong-requires : tie.Need-are-wrong-requires Inv-loop μ-loop
+are-wrong-requires c κs = few (whole c)
+
+unfit-requires-7 : tie.Need-unfit-requires-7 Inv-loop μ-loop
+unfit-requires-7 c κs = search needs
+
+returns-7 : tie.Need-returns-7 Inv-loop μ-loop
+returns-7 c =
+    let w = c .before .before in
+    let e = w .before in
+    c .unfit7 .ensures ∙ unfit-is day (state (whole e)) (sym (not-true (places (whole e)) (sym (wrong w) ∙ c .before .if12 .taken)) ∙ fitting e)
 
 moment-of-requires : tie.Need-moment-of-requires Inv-loop μ-loop
 moment-of-requires c κs = search needs
@@ -441,13 +484,14 @@ moment-of-requires c κs = search needs
 who-requires : tie.Need-who-requires Inv-loop μ-loop
 who-requires c κs = search needs
 
-returns-7 : tie.Need-returns-7 Inv-loop μ-loop
-returns-7 c =
-    let e = c .before .before in
+returns-8 : tie.Need-returns-8 Inv-loop μ-loop
+returns-8 c =
+    let o = c .before .before in
+    let w = o .before in
+    let e = w .before in
     let l = e .before in
-    let p = l .before .before .before .before .before in
-    let k = state p in
-    fit-is day k (upto-all (l .loop .inv .0 .tasks) (e .loop-test .left) ∙ all p)
+    let k = state (whole e) in
+    fit-is day k (sym (not-false (places (whole e)) (sym (wrong w) ∙ o .if12 .left)) ∙ fitting e)
     (c .before .moment-of .ensures ∙ looked-event day k (l .loop .inv .0) (e .loop-test .left))
     (c .who .ensures ∙ looked-runs day k (l .loop .inv .0) (e .loop-test .left))
 
@@ -463,8 +507,11 @@ survey-spec =
     returns
     cast-n
     no-writers-requires
+    none-seen-requires
     no-lead-requires
     loop-holds
+    element-copy-out-place
+    with-requires
     mul-current
     element-copy-out-current
     mul-are-priorities
@@ -520,6 +567,9 @@ survey-spec =
     add-i-2
     loop-less-2
     loop-again-2
+    are-wrong-requires
+    unfit-requires-7
+    returns-7
     moment-of-requires
     who-requires
-    returns-7)
+    returns-8)

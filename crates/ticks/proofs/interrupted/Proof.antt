@@ -9,15 +9,16 @@ use Rattle.layout.specs.declared.Mark.the-variants.{XI, TI}
 use Rattle.layout.proofs.MarksLaws.{alike}
 use Rattle.machine.specs.Calls.{interruptBy}
 use Rattle.machine.specs.Step.{finish}
+use Rattle.machine.proofs.Passed.{parts}
 use Rattle.serving.proofs.TurnCases.{sound}
 use Rattle.ticks.proofs.interrupted.Statement.{statement}
 use Rattle.ticks.proofs.interrupted.Tie as tie
 
 enabled-as-requires : tie.Need-enabled-as-requires
-enabled-as-requires c κs = let s = c .before .before .before in (sound day _ (s .pre .0) .waits, s .pre .1)
+enabled-as-requires c κs = let s = c .before .before .before in (sound day _ (s .pre .0) .waits, (parts day _ (s .pre .0) .places, s .pre .1))
 
 enabled-as-requires-2 : tie.Need-enabled-as-requires-2
-enabled-as-requires-2 c κs = let s = c .before .before in (sound day _ (s .pre .0) .waits, s .pre .1)
+enabled-as-requires-2 c κs = let s = c .before .before in (sound day _ (s .pre .0) .waits, (parts day _ (s .pre .0) .places, s .pre .1))
 
 returns : tie.Need-returns
 unfolding interruptBy

@@ -1,8 +1,8 @@
 -- Before the last instant each task has its turn or stays as it is; at it the tick is refused.
 use borrow.Author.Needs.{needs}
-use mathlib.Core.Path.{_≡_, sym, _∙_, ap}
+use mathlib.Core.Path.{_≡_, sym, _∙_, ap, ap₂, subst}
 use mathlib.Core.Logic.{⊎-elim}
-use mathlib.Core.Bool.{true, false}
+use mathlib.Core.Bool.{true, false, Bool, cond, not, Bool·beq}
 use Prim.Native.Nat.{_+_, _≤_, _<_, _-_}
 use native.Mathlib.Nat.{le-antisymm}
 use native.Mathlib.Omega.{arith}
@@ -14,7 +14,7 @@ use Rattle.layout.specs.declared.Call.{Call}
 use Rattle.lock.proofs.Bools.{neither}
 use Rattle.task.specs.Turns.{tickTurn}
 use Rattle.task.proofs.Laws.{still}
-use Rattle.machine.specs.State.{mostTasks, taskAt, withState, begunAt}
+use Rattle.machine.specs.State.{mostTasks, taskAt, withState, begunAt, placeAt}
 use Rattle.machine.specs.Running.{runningOf}
 use Rattle.machine.specs.Serving.{nextServed}
 use Rattle.machine.specs.Work.{everyTurn}
@@ -25,22 +25,30 @@ use Rattle.machine.specs.Step.{finish, refuse, orRefuse}
 use Rattle.machine.specs.declared.State.{State}
 use Rattle.machine.specs.declared.Running.{Running}
 use Rattle.machine.specs.declared.Running.the-variants.{Idle}
-use Rattle.serving.specs.Ends.{served, answerOf}
-use Rattle.machine.proofs.Passed.{tested}
+use Rattle.serving.specs.Ends.{answerOf}
+use Rattle.waiters.specs.Served.{served}
+use Rattle.machine.proofs.Passed.{tested, parts}
 use Rattle.machine.proofs.Turns.{good-tick}
-use Rattle.granting.proofs.Owned.{Owned, tasks-long}
+use Rattle.granting.proofs.Owned.{Owned, tasks-long, tables-long}
 use Rattle.ticks.proofs.EveryTask.{Made, made-none, made-all, made-more, made-still, task-now, Steady, steady-more, steady-still, tick-keeps, everyDone, every-waits, every-idle, every-unserved, every-served, tick-early, tick-late}
 use Rattle.ticks.proofs.StirLaws.{nothing-comes}
 use Rattle.ticks.proofs.TickRuns.{Leading, leading-none, leading-from, leading-more, leading-still, runs-below}
 use Rattle.ticks.proofs.ticked.Statement.{statement}
+use Rattle.urgency.proofs.SetTill.{Till, till-none, till-more, till-still, unlike}
+use Rattle.urgency.specs.Standing.{turnedIf, Turned}
+use Rattle.ticks.proofs.TickEnds.{turns, unturned, places-apart, turned-moves, turned-all, turned-leads}
+use Rattle.task.specs.State.{runnable}
+use Rattle.task.specs.declared.Turn.{Turn}
+use Rattle.machine.specs.Places.{moved}
+use Rattle.machine.specs.Sets.{holds}
 use Rattle.ticks.proofs.ticked.Tie as tie
 
 abbrev Inv-loop : tie.InvT-loop
-Inv-loop k₀ n most s₀ altered₀ lead₀ i₀ k s altered lead i =
-    (i ≤ most) × Made (tickTurn n) k₀ i k s × Leading (k .tasks) (k₀ .counts .tasks) lead × (altered ≡ false → Steady (tickTurn n) (k₀ .tasks) i)
+Inv-loop k₀ n counts most s₀ altered₀ turned₀ lead₀ i₀ k s altered turned lead i =
+    (i ≤ most) × Made (tickTurn n) k₀ i k s × Leading (k₀ .places) turned (k .tasks) (k₀ .counts .tasks) lead × (altered ≡ false → Steady (tickTurn n) (k₀ .tasks) i) × Till (turns n k₀) i turned
 
 abbrev μ-loop : tie.MeasureT-loop
-μ-loop k₀ n most s₀ altered₀ lead₀ i₀ k s altered lead i = most - i
+μ-loop k₀ n counts most s₀ altered₀ turned₀ lead₀ i₀ k s altered turned lead i = most - i
 
 -- ---- what is known on the way
 
@@ -69,7 +77,7 @@ fits p = tested day (state p) (passes p) .fits .tasks
 in-time : (p : P) → moment p .0 ≤ lastInstant
 in-time p = rw (p .plus .ensures) (omega (arith, p .before .if1 .left))
 
-runner-is : (p : P) {r : Running} → start p .args .r ≡ r → runningOf (state p .counts .tasks) (state p .tasks) ≡ r
+runner-is : (p : P) {r : Running} → start p .args .r ≡ r → runningOf (state p .counts .tasks) (state p .places) (state p .tasks) ≡ r
 runner-is p e = sym (start p .pre .1) ∙ e
 
 -- Where a task runs.
@@ -77,7 +85,7 @@ below : (c : tie.After-known-told Inv-loop μ-loop) → c .before .r .given .0 .
 below c =
     let p = c .before .before .before .before .before .before .before in
     let k = state p in
-    omega (arith, runs-below (k .tasks) (k .counts .tasks) (c .before .r .given .0 .0) (runner-is p (c .before .r .given .1)), fits p)
+    omega (arith, runs-below (k .places) (k .tasks) (k .counts .tasks) (c .before .r .given .0 .0) (runner-is p (c .before .r .given .1)), fits p)
 
 -- Inside the loop.
 abbrev I : Type 0
@@ -99,6 +107,10 @@ J = tie.Joined2 Inv-loop μ-loop
 abbrev here : J → I
 here c = c .before .before .before .before .before .before
 
+-- The places are the kernel's.
+standing : (l : I) (b : Bool) → cond b mostTasks (placeAt (l .before .loop .k .places) (l .before .loop .i)) ≡ cond b mostTasks (placeAt (state (passed l) .places) (l .before .loop .i))
+standing l b = ap (λ (q : State). cond b mostTasks (placeAt (q .places) (l .before .loop .i))) (l .before .loop .inv .1 .state)
+
 made : (c : J) → let l = here c in
     Made (tickTurn (moment (passed l))) (state (passed l)) (l .before .loop .i + 1) (c .if2 .k) (c .if2 .s)
 made c =
@@ -109,21 +121,38 @@ made c =
     let i = l .before .loop .i in
     let t = taskAt (l .before .loop .k .tasks) i in
     ⊎-elim
-    (λ w. made-more f k i (less l) (l .before .loop .inv .1) (w .2 .result) (w .2 .ensures) (w .8) (w .9 ∙ w .4 .ensures))
+    (λ w. made-more f k i (less l) (l .before .loop .inv .1) (w .2 .result) (w .2 .ensures) (w .12) (w .13 ∙ w .4 .ensures))
     (λ w. made-still f k i (less l) (l .before .loop .inv .1) (still n t (nothing-comes n t (sym (c .before .may-come .ensures) ∙ w .0 .left))) (w .1) (w .2))
     (c .if2 .came)
 
-led : (c : J) → let l = here c in Leading (c .if2 .k .tasks) (state (passed l) .counts .tasks) (c .if2 .lead)
+led : (c : J) → let l = here c in let k = state (passed l) in Leading (k .places) (c .if2 .turned) (c .if2 .k .tasks) (k .counts .tasks) (c .if2 .lead)
 led c =
     let l = here c in
     let p = passed l in
     let k = l .before .loop .k in
-    let h = l .before .loop .inv .2 in
+    let o = l .before .loop in
+    let h = o .inv .2 in
     ⊎-elim
     (λ w.
-    leading-more (moment p) (k .tasks) (state p .counts .tasks) (l .before .loop .i) (l .loop-test .taken) (fits p) (w .2 .result) (w .2 .ensures)
-    h (ap (λ (q : State). q .tasks) (w .8)) (w .6 .ensures) (w .7 .ensures) (w .11))
-    (λ w. leading-still h (ap (λ (q : State). q .tasks) (w .1)) (w .4))
+    leading-more (moment p) (state p .places) (o .turned) (k .tasks) (state p .counts .tasks) (o .i) (l .loop-test .taken) (fits p)
+    (places-apart day (state p) (passes p) (tasks-long (state p) (good p)) (moment p)) (o .inv .4 .above) (w .2 .result) (w .2 .ensures)
+    h (ap (λ (q : State). q .tasks) (w .12)) (w .6 .ensures) (unlike (w .7 .result) (w .6 .result) ∙ ap₂ turnedIf (w .7 .ensures) (w .6 .ensures))
+    (w .15 ∙ w .8 .ensures) (w .10 .ensures ∙ standing l (not (Bool·beq (w .7 .result) (w .6 .result)))) (w .11 .ensures) (w .16))
+    (λ w. leading-still h (ap (λ (q : State). q .tasks) (w .1)) (w .4) (w .5))
+    (c .if2 .came)
+
+till : (c : J) → let l = here c in Till (turns (moment (passed l)) (state (passed l))) (l .before .loop .i + 1) (c .if2 .turned)
+till c =
+    let l = here c in
+    let k = state (passed l) in
+    let n = moment (passed l) in
+    let f = tickTurn n in
+    let o = l .before .loop in
+    let t = taskAt (o .k .tasks) (o .i) in
+    let same = task-now f k (o .i) (less l) (o .inv .1) in
+    ⊎-elim
+    (λ w. till-more _ (o .inv .4) (unlike (w .7 .result) (w .6 .result) ∙ ap₂ turnedIf (w .7 .ensures ∙ ap runnable same) (w .6 .ensures ∙ ap (λ (u : Turn). runnable (u .task)) (w .2 .ensures ∙ ap f same))) (w .15 ∙ w .8 .ensures))
+    (λ w. till-still _ (o .inv .4) (rw (← same, still n t (nothing-comes n t (sym (c .before .may-come .ensures) ∙ w .0 .left))) (unturned (runnable t))) (w .4))
     (c .if2 .came)
 
 steady : (c : J) → let l = here c in
@@ -138,7 +167,7 @@ steady c e =
     let same = task-now f k (o .i) (less l) (o .inv .1) in
     ⊎-elim
     (λ w.
-    let x = neither (o .altered) (w .5 .result) (sym (w .10) ∙ e) in
+    let x = neither (o .altered) (w .5 .result) (sym (w .14) ∙ e) in
     steady-more f (k .tasks) (o .i) (o .inv .3 (x .0)) t (w .2 .result) same (w .2 .ensures) (w .5 .ensures) (x .1))
     (λ w. steady-still f (k .tasks) (o .i) (o .inv .3 (sym (w .3) ∙ e)) (rw (← same) (still n t (nothing-comes n t (sym (c .before .may-come .ensures) ∙ w .0 .left)))))
     (c .if2 .came)
@@ -195,8 +224,11 @@ mul-against-if c = omega (arith, below c)
 element-copy-out-against-if : tie.Need-element-copy-out-against-if Inv-loop μ-loop
 element-copy-out-against-if c = omega (arith, below c)
 
+element-copy-out-against-if-2 : tie.Need-element-copy-out-against-if-2 Inv-loop μ-loop
+element-copy-out-against-if-2 c = omega (arith, below c)
+
 against-if-requires : tie.Need-against-if-requires Inv-loop μ-loop
-against-if-requires c κs = below c
+against-if-requires c κs = below (c .before)
 
 enum-told : tie.Need-enum-told Inv-loop μ-loop
 enum-told c = search needs
@@ -209,10 +241,11 @@ loop-holds c =
       search needs,
       rw (o .before .no-sets .ensures) (made-none _ _),
       ⊎-elim
-          (λ w. leading-from (k .tasks) (k .counts .tasks) (w .1 .given .0 .0) (tasks-long k (good p)) (runner-is p (w .1 .given .1)) (o .no-lead .ensures) (rw (w .4) (w .3 .ensures)))
-          (λ w. leading-none (k .tasks) (k .counts .tasks) (tasks-long k (good p)) (runner-is p (w .1 .given .1)) (w .2 ∙ o .no-lead .ensures))
+          (λ w. leading-from (k .places) (k .tasks) (k .counts .tasks) (tasks-long k (good p)) (w .1 .given .0 .0) (runner-is p (w .1 .given .1)) (o .no-lead .ensures) (rw (w .5) (w .4 .ensures)))
+          (λ w. leading-none (k .places) (k .tasks) (k .counts .tasks) (tasks-long k (good p)) (runner-is p (w .1 .given .1)) (w .2 ∙ o .no-lead .ensures))
           (c .match .came),
       λ e j l. absurd (omega arith),
+      till-none _,
     )
 
 mul-t : tie.Need-mul-t Inv-loop μ-loop
@@ -248,8 +281,20 @@ is-altered-requires c κs = search needs
 is-runnable-requires : tie.Need-is-runnable-requires Inv-loop μ-loop
 is-runnable-requires c κs = search needs
 
+is-runnable-requires-2 : tie.Need-is-runnable-requires-2 Inv-loop μ-loop
+is-runnable-requires-2 c κs = search needs
+
+put-if-requires : tie.Need-put-if-requires Inv-loop μ-loop
+put-if-requires c κs = omega (arith, inside (c .before .before .before .before .before .before .before .before .before .before .before .before .before))
+
+element-copy-out-place-if : tie.Need-element-copy-out-place-if Inv-loop μ-loop
+element-copy-out-place-if c = omega (arith, inside (c .before .before .before .before .before .before .before .before .before .before .before .before .before .before))
+
+place-if-requires : tie.Need-place-if-requires Inv-loop μ-loop
+place-if-requires c κs = search needs
+
 against-if-requires-2 : tie.Need-against-if-requires-2 Inv-loop μ-loop
-against-if-requires-2 c κs = omega (arith, inside (c .before .before .before .before .before .before .before .before .before .before .before .before))
+against-if-requires-2 c κs = omega (arith, inside (c .before .before .before .before .before .before .before .before .before .before .before .before .before .before .before .before))
 
 add-i : tie.Need-add-i Inv-loop μ-loop
 add-i c = omega (arith, inside (here c))
@@ -258,7 +303,7 @@ loop-less : tie.Need-loop-less Inv-loop μ-loop
 loop-less c = search needs
 
 loop-again : tie.Need-loop-again Inv-loop μ-loop
-loop-again c = (search needs, made c, led c, steady c)
+loop-again c = (search needs, made c, led c, steady c, till c)
 
 who-requires : tie.Need-who-requires Inv-loop μ-loop
 who-requires c κs = search needs
@@ -269,8 +314,13 @@ finished-requires c κs =
     let a = c .before .before in
     let p = a .before .before .before .before .before .before .before in
     let k = state p in
-    let n = moment p in
-    every-waits day k (passes p) (tasks-long k (good p)) n (tickTurn n) (λ t h. good-tick day (k .counts) n t (in-time p) h .ok) (all a .0)
+    let n = moment p in (
+      every-waits day k (passes p) (tasks-long k (good p)) n (tickTurn n) (λ t h. good-tick day (k .counts) n t (in-time p) h .ok) (all a .0),
+      rw (all a .0) (parts day k (passes p) .places),
+    )
+
+moved-requires : tie.Need-moved-requires Inv-loop μ-loop
+moved-requires c κs = fits (c .before .before .before .before .before .before .before .before .before .before)
 
 -- Where the waiting tasks have been served, if that is needed.
 abbrev E : Type 0
@@ -284,7 +334,7 @@ from c = over c .before .before .before .before .before .before .before
 
 -- Nobody is to be served, where no priority of one who waits is altered.
 idle : (c : E) → over c .before .loop .altered ≡ false → let k = state (from c) in let n = moment (from c) in
-    nextServed (k .counts .tasks) (served (everyDone k n (tickTurn n)) 0) ≡ Idle
+    nextServed (k .counts .tasks) (k .places) (served (everyDone k n (tickTurn n)) 0) ≡ Idle
 idle c e =
     let p = from c in
     let k = state p in
@@ -293,18 +343,30 @@ idle c e =
     every-idle day k (passes p) (tasks-long k (good p)) n (tickTurn n) (λ t h. tick-keeps day (k .counts) n t h)
     (λ j b. l .inv .3 e j (omega (arith, b, over c .loop-test .left)))
 
+-- Each task has been looked at.
+every-turn : (c : tie.After-loop Inv-loop μ-loop) → let p = c .before .before .before .before .before .before .before in
+    Till (turns (moment p) (state p)) (state p .counts .tasks) (c .before .loop .turned)
+every-turn c =
+    let l = c .before in
+    rw (le-antisymm (l .loop .inv .0) (c .loop-test .left)) at (l .loop .inv .4)
+
 ends : (c : E) → let k = state (from c) in let n = moment (from c) in
     record { state = begunAt n (c .if3 .k); answer = answerOf 0 (c .if3 .runner) (c .if3 .s) } ≡ finish k (everyTurn k n (tickTurn n))
 ends c =
-    let k = state (from c) in
-    let n = moment (from c) in
+    let p = from c in
+    let k = state p in
+    let n = moment p in
     let f = tickTurn n in
     let l = over c .before .loop in
     let w = all (over c) in
+    let t = every-turn (over c) in
+    let long = tasks-long k (good p) in
     ⊎-elim
-    (λ z. every-served k n f (w .0) (w .1) (z .1 .ensures) (z .5) (z .6) (z .7))
-    (λ z. every-unserved k n f (z .1 ∙ w .0) (z .2 ∙ w .1) (idle c (z .0 .left))
-    (z .3 ∙ c .before .who .ensures ∙ l .inv .2 .leads .who ∙ ap (λ (q : State). runningOf (k .counts .tasks) (q .tasks)) (w .0)))
+    (λ z. every-served k n f (w .0) (w .1) (z .1 .ensures (k .tasks) (subst (λ (q : State). Turned (q .counts .tasks) (k .tasks) (q .tasks) (record { runnable = l .turned; waiting = 0 })) (sym (w .0)) (turned-all day k (passes p) long n (l .turned) t))) (z .5) (z .6) (z .7))
+    (λ z.
+    let o = turned-moves day k (passes p) long n (l .turned) t (z .2 .ensures ∙ ap (λ (q : State). moved (k .counts .tasks) (λ i. holds i (l .turned)) (q .places)) (w .0)) in
+    every-unserved k n f (w .0) (z .4 ∙ w .1) (idle c (z .0 .left)) o
+    (z .5 ∙ c .before .who .ensures ∙ turned-leads day k (passes p) long n (l .turned) t (tables-long k (good p) .places) (subst (λ (q : State). Leading (k .places) (l .turned) (q .tasks) (k .counts .tasks) (l .lead)) (w .0) (l .inv .2)) o) (z .3))
     (c .if3 .came)
 
 begun-at-requires : tie.Need-begun-at-requires Inv-loop μ-loop
@@ -332,6 +394,7 @@ ticked-spec =
     cast-at
     mul-against-if
     element-copy-out-against-if
+    element-copy-out-against-if-2
     against-if-requires
     enum-told
     loop-holds
@@ -346,12 +409,17 @@ ticked-spec =
     put-marks-requires
     is-altered-requires
     is-runnable-requires
+    is-runnable-requires-2
+    put-if-requires
+    element-copy-out-place-if
+    place-if-requires
     against-if-requires-2
     add-i
     loop-less
     loop-again
     who-requires
     finished-requires
+    moved-requires
     begun-at-requires
     answer-of-requires
     returns-2)

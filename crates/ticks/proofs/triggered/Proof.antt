@@ -5,7 +5,7 @@ use Rattle.calendar.specs.Limits.{day}
 use Rattle.task.specs.Turns.{triggerTurn}
 use Rattle.machine.specs.Invariants.{IsDay}
 use Rattle.machine.specs.Step.{finish}
-use Rattle.machine.proofs.Passed.{tested}
+use Rattle.machine.proofs.Passed.{tested, parts}
 use Rattle.machine.proofs.Turns.{good-trigger}
 use Rattle.granting.proofs.Owned.{tasks-long}
 use Rattle.serving.proofs.TurnCases.{sound}
@@ -28,21 +28,26 @@ finished-requires : tie.Need-finished-requires
 finished-requires c κs =
     let s = c .before .before .before .before in
     let k = s .args .t1 in
-    every-waits day k (s .pre .0) (tasks-long k (s .good .0 .0, s .good .0 .1 .1)) (k .now) (triggerTurn day (k .clock) (k .now) (s .args .i))
-    (λ t h. good-trigger day (k .counts) isDay (k .clock) (k .now) (sound day k (s .pre .0) .now) (s .args .i) t h .ok)
-    (c .before .trigger-all .ensures .0)
+    let w = c .before .trigger-all .ensures in (
+      every-waits day k (s .pre .0) (tasks-long k (s .good .0 .0, s .good .0 .1 .1)) (k .now) (triggerTurn day (k .clock) (k .now) (s .args .i))
+          (λ t h. good-trigger day (k .counts) isDay (k .clock) (k .now) (sound day k (s .pre .0) .now) (s .args .i) t h .ok)
+          (w .0),
+      rw (w .0) (parts day k (s .pre .0) .places),
+    )
 
 returns : tie.Need-returns
 returns c =
     let s = c .before .before .before .before .before in
     let k = s .args .t1 in
     let w = c .before .before .trigger-all .ensures in
-    c .finished .ensures
+    c .finished .ensures (k .tasks) (rw (w .0) (rw (w .0) at (w .2)))
     ∙ every-finish k (triggerTurn day (k .clock) (k .now) (s .args .i)) (w .0) (w .1)
     ∙ ap (finish k) (sym (trigger-on day k (s .args .i) (c .before .before .before .if1 .taken)))
 
 done-requires : tie.Need-done-requires
-done-requires c κs = sound day (c .before .before .args .t1) (c .before .before .pre .0) .waits
+done-requires c κs =
+    let s = c .before .before in
+    (sound day (s .args .t1) (s .pre .0) .waits, parts day (s .args .t1) (s .pre .0) .places)
 
 returns-2 : tie.Need-returns-2
 returns-2 c =

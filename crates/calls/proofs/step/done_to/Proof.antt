@@ -1,6 +1,6 @@
 -- What the state refuses, or the change of the task that the call is about.
 use borrow.Author.Needs.{needs}
-use mathlib.Core.Path.{_≡_, sym, ap, _∙_}
+use mathlib.Core.Path.{_≡_, sym, ap, _∙_, refl}
 use mathlib.Core.Bool.{true}
 use mathlib.Core.Logic.{⊎-elim}
 use Prim.Native.Nat.{_<_}
@@ -11,7 +11,7 @@ use Rattle.machine.specs.State.{mostTasks}
 use Rattle.machine.specs.Running.{runner}
 use Rattle.machine.specs.Sorts.{sortOf, askedKind, placeOf}
 use Rattle.machine.specs.Refusals.{formalRefusal, stateRefusal}
-use Rattle.machine.proofs.Passed.{tested}
+use Rattle.machine.proofs.Passed.{tested, parts}
 use Rattle.granting.specs.Writers.{TellsFor}
 use Rattle.granting.proofs.WriterLaws.{known-none, ready-told, ready-known}
 use Rattle.refusals.specs.Inner.{aboutOne}
@@ -19,6 +19,10 @@ use Rattle.serving.proofs.TurnCases.{sound}
 use Rattle.changes.proofs.CallLaws.{in-order, place-in, ground, settled-refused}
 use Rattle.changes.proofs.ChangeLaws.{returnable, change-waits, change-done}
 use Rattle.calls.proofs.step.done_to.Statement.{statement}
+use Rattle.urgency.specs.Standing.{Turned}
+use Rattle.urgency.proofs.Turning.{turned-more}
+use lib.ListN.{set}
+use Rattle.granting.proofs.Owned.{tasks-long}
 use Rattle.calls.proofs.step.done_to.Tie as tie
 
 -- What is known at the start.
@@ -113,22 +117,40 @@ mul-task c = omega (arith, placed (start (before-change (c .before .before))))
 element-set-from-task : tie.Need-element-set-from-task
 element-set-from-task c = placed (start (before-change (c .before .before)))
 
+with-turn-requires : tie.Need-with-turn-requires
+with-turn-requires c κs = placed (start (before-change (c .before .before .before)))
+
 put-marks-requires : tie.Need-put-marks-requires
-put-marks-requires c κs = placed (start (before-change (c .before .before .before)))
+put-marks-requires c κs = placed (start (before-change (c .before .before .before .before .before)))
 
 finished-requires : tie.Need-finished-requires
 finished-requires c κs =
+    let x = c .before .before .before .before .before .before in
+    let s = start (before-change x) in
+    let a = s .args in (
+      change-waits day (a .t1) (a .h) (a .list) (s .pre .0) (formed s) (passed (before-change x)) (sorted s) (about s) (here s) (x .change-of .ensures (a .t1 .counts .tasks) (a .t1 .tasks) (told (x .before))),
+      parts day (a .t1) (s .pre .0) .places,
+    )
+
+-- The task is the only one that may have turned.
+turned : (c : tie.After-with-turn) → let x = c .before .before .before .before in let a = start (before-change x) .args in
+    Turned (a .t1 .counts .tasks) (a .t1 .tasks) (set (a .t1 .tasks) (a .i) (x .change-of .result .task)) (c .with-turn .result)
+turned c =
     let x = c .before .before .before .before in
     let s = start (before-change x) in
     let a = s .args in
-    change-waits day (a .t1) (a .h) (a .list) (s .pre .0) (formed s) (passed (before-change x)) (sorted s) (about s) (here s) (x .change-of .ensures (a .t1 .counts .tasks) (a .t1 .tasks) (told (x .before)))
+    let k = a .t1 in
+    let n = k .counts .tasks in
+    rw (c .with-turn .ensures)
+    (turned-more n (k .tasks) (k .tasks) _ (c .before .nobody-turned .ensures n (k .tasks)) (a .i)
+    (omega (arith, placed s, tasks-long k (s .good .0 .0, s .good .0 .1 .1))) refl (x .change-of .result .task))
 
 returns-2 : tie.Need-returns-2
 returns-2 c =
-    let x = c .before .before .before .before .before in
+    let x = c .before .before .before .before .before .before .before in
     let s = start (before-change x) in
     let a = s .args in
-    c .finished .ensures
+    c .finished .ensures (a .t1 .tasks) (turned (c .before .before .before))
     ∙ change-done day (a .t1) (a .h) (a .list) (s .pre .0) (formed s) (passed (before-change x)) (sorted s) (about s) (here s) (x .change-of .ensures (a .t1 .counts .tasks) (a .t1 .tasks) (told (x .before))) (c .before .before .no-sets .ensures) (c .before .put-marks .ensures)
 
 pub done-to-spec : {M : Type 1} → statement M
@@ -147,6 +169,8 @@ done-to-spec =
     change-of-requires
     mul-task
     element-set-from-task
+    (λ c κs. search needs)
+    with-turn-requires
     (λ c κs. search needs)
     put-marks-requires
     finished-requires

@@ -1,4 +1,4 @@
--- The next place, and the count.
+-- The next place of the table, the place of its number, and the count.
 use borrow.Author.Needs.{needs}
 use Rattle.machine.specs.Calls.{addTask}
 use Rattle.changes.proofs.declarations.add_task.Statement.{statement}
@@ -16,6 +16,12 @@ mul-t8 c = search needs
 element-set-from-next : tie.Need-element-set-from-next
 element-set-from-next c = search needs
 
+cast-next : tie.Need-cast-next
+cast-next c = search needs
+
+element-write-next : tie.Need-element-write-next
+element-write-next c = search needs
+
 add-next : tie.Need-add-next
 add-next c = search needs
 
@@ -25,4 +31,13 @@ returns c = rw (c .before .fresh-task .ensures)
 
 pub add-task-spec : {M : Type 1} → statement M
 add-task-spec =
-    tie.close (tie.spec fresh-task-requires cast-t7 mul-t8 element-set-from-next add-next returns)
+    tie.close
+    (tie.spec
+    fresh-task-requires
+    cast-t7
+    mul-t8
+    element-set-from-next
+    cast-next
+    element-write-next
+    add-next
+    returns)

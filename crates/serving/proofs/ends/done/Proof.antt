@@ -1,4 +1,4 @@
--- Nothing was done and nobody is marked.
+-- Nothing was done, nobody is marked, and nobody has turned.
 use borrow.Author.Needs.{needs}
 use mathlib.Core.Path.{ap, _∙_}
 use Rattle.machine.specs.Work.{onlyEnabled}
@@ -10,14 +10,18 @@ use Rattle.serving.proofs.ends.done.Tie as tie
 no-sets-requires : tie.Need-no-sets-requires
 no-sets-requires c κs = search needs
 
+nobody-turned-requires : tie.Need-nobody-turned-requires
+nobody-turned-requires c κs = search needs
+
 finished-requires : tie.Need-finished-requires
 finished-requires c κs = search needs
 
 returns : tie.Need-returns
 unfolding onlyEnabled
 returns c =
-    let k = c .before .before .args .k in
-    c .finished .ensures ∙ ap (λ m. finish k (workHere k m)) (c .before .no-sets .ensures)
+    let k = c .before .before .before .args .k in
+    c .finished .ensures (k .tasks) (c .before .nobody-turned .ensures (k .counts .tasks) (k .tasks))
+    ∙ ap (λ m. finish k (workHere k m)) (c .before .before .no-sets .ensures)
 
 pub done-spec : {M : Type 1} → statement M
-done-spec = tie.close (tie.spec no-sets-requires finished-requires returns)
+done-spec = tie.close (tie.spec no-sets-requires nobody-turned-requires finished-requires returns)

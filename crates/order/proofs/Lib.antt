@@ -1,0 +1,5 @@
+-- Laws that the proofs of the code share.
+pub mod SeenLaws
+pub mod EventLaws
+pub mod Closing
+pub mod Behind

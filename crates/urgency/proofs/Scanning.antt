@@ -1,0 +1,49 @@
+-- What a scan of the tasks knows of those below i: who is runnable, who waits, and who leads.
+use mathlib.Core.Path.{_≡_, _∙_}
+use mathlib.Core.Bool.{Bool, cond}
+use Prim.Native.Nat.{ℕ, _+_, _*_, _≤_, min}
+use native.Mathlib.Nat.{le-antisymm}
+use native.Mathlib.Omega.{arith}
+use Rattle.lock.specs.Locks.{waiting}
+use Rattle.machine.specs.Running.{mostPlaces}
+use Rattle.machine.specs.Sets.{holds}
+use Rattle.machine.specs.State.{mostTasks, taskAt, placeAt}
+use Rattle.machine.specs.declared.State.{State}
+use Rattle.urgency.specs.Leads.{noLead, Weighed, urgencyThen}
+use Rattle.urgency.specs.Puts.{putIf}
+use Rattle.urgency.specs.Standing.{Stands, Scanned}
+use Rattle.urgency.specs.declared.scan.Lead.{Lead}
+use Rattle.urgency.proofs.LeadLaws.{Led, canRun, led-none, led-more}
+use Rattle.urgency.proofs.SetTill.{Till, till-none, till-more}
+
+module _ (k : State) (late : ℕ) where
+  pub record Scanning (i : ℕ) (lead : Lead) (r w : ℕ) : Type 0 where
+    pub runs : Till (canRun (k .tasks)) i r
+    pub waits : Till (λ j. waiting (taskAt (k .tasks) j .wait)) i w
+    pub leads : Led i (canRun (k .tasks)) (urgencyThen (λ j. holds j late) (k .places) (k .tasks)) lead
+
+  pub scanning-none : {l : Lead} → l ≡ noLead → Scanning 0 l 0 0
+  scanning-none e = record { runs = till-none _; waits = till-none _; leads = led-none _ _ e }
+
+  -- One more task: b is whether it can run, c whether it waits, d whether it is late, and p where it stands then.
+  pub scanning-more : {i : ℕ} {lead after : Lead} {r w r′ w′ : ℕ} {b c d : Bool} {p : ℕ} → Scanning i lead r w
+      → b ≡ canRun (k .tasks) i → r′ ≡ putIf i b r → c ≡ waiting (taskAt (k .tasks) i .wait) → w′ ≡ putIf i c w
+      → d ≡ holds i late → p ≡ cond d mostTasks (placeAt (k .places) i)
+      → Weighed lead b (mostPlaces * taskAt (k .tasks) i .current + p) i after → Scanning (i + 1) after r′ w′
+  unfolding urgencyThen
+  scanning-more {i} s e f g h l m q =
+      record {
+        runs = till-more _ (s .runs) e f;
+        waits = till-more _ (s .waits) g h;
+        leads = led-more _ (urgencyThen (λ j. holds j late) (k .places) (k .tasks)) i e (s .leads) (rw (m, l) at q);
+      }
+
+  -- All of them.
+  pub scanning-all : {i m : ℕ} {lead : Lead} {r w : ℕ} → Scanning i lead r w → m ≡ min (k .counts .tasks) mostTasks → i ≤ m → m ≤ i
+      → Scanned k late (record { standing = record { runnable = r; waiting = w }; lead = lead })
+  scanning-all {i} s e a b =
+      let z : i ≡ min (k .counts .tasks) mostTasks = le-antisymm a b ∙ e in
+      record {
+        standing = record { runnable = λ j l. s .runs .below j (rw z l); waiting = λ j l. s .waits .below j (rw z l) };
+        lead = s .leads .who ∙ rw z;
+      }

@@ -1,0 +1,4 @@
+-- Names for the contracts of this crate.
+pub mod Leads
+pub mod Puts
+pub mod Standing
