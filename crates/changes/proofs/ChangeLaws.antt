@@ -18,6 +18,7 @@ use Rattle.lock.specs.declared.Locks.{Locks}
 use Rattle.lock.proofs.Bools.{byBool, contra, both, or-then}
 use Rattle.task.specs.declared.Task.{Task}
 use Rattle.task.proofs.Waits.{NoNewWait}
+use Rattle.task.specs.declared.Marks.{Marks}
 use Rattle.machine.specs.declared.Change.{Change}
 use Rattle.machine.specs.declared.State.{State}
 use Rattle.machine.specs.declared.Running.{Running}
@@ -37,17 +38,16 @@ use Rattle.machine.proofs.Urgency.{Below, runner-below}
 use Rattle.machine.proofs.Passed.{unrefused}
 use Rattle.machine.proofs.Sorts.{given-waits}
 use Rattle.machine.proofs.WorkPairs.{no-wait-named, no-wait-runner}
-use Rattle.survey.specs.Looks.{waitsOk}
-use Rattle.urgency.specs.Puts.{putIf, putMarks}
 use Rattle.machine.specs.Sets.{only, mark, noSets, onlyIn}
 use Rattle.machine.specs.declared.Sets.{Sets}
 use Rattle.machine.proofs.SetLaws.{members-each, each-same}
-use Rattle.task.specs.declared.Marks.{Marks}
+use Rattle.urgency.specs.Puts.{putIf, putMarks}
+use Rattle.survey.specs.Looks.{waitsOk}
 use Rattle.serving.specs.Ends.{asBefore, workHere}
-use Rattle.refusals.specs.Inner.{aboutOne, ticking}
-use Rattle.changes.specs.Inner.{Returnable}
 use Rattle.serving.proofs.AskLaws.{wait-begins}
 use Rattle.serving.proofs.TurnCases.{wait-stays, wait-at, waits-changed, sound}
+use Rattle.refusals.specs.Inner.{aboutOne, ticking}
+use Rattle.changes.specs.Inner.{Returnable}
 use Rattle.changes.proofs.CallLaws.{past, named-once, settled-call}
 
 -- ---- the first task in the sets

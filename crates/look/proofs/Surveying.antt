@@ -1,9 +1,10 @@
 -- The survey of a kernel: what one task adds, and what the whole says.
-use mathlib.Core.Path.{_≡_, refl, _∙_}
+use mathlib.Core.Path.{_≡_, _∙_}
 use mathlib.Core.Bool.{true, false}
 use mathlib.Core.List.{List}
 use Prim.Native.Nat.{ℕ, _+_, _*_, _≤_, _<_}
 use native.Mathlib.Nat.{le-antisymm}
+use native.Mathlib.Numerals.{add-one}
 use Rattle.calendar.specs.Moments.{sooner}
 use Rattle.calendar.specs.declared.Instant.{Instant}
 use Rattle.calendar.specs.declared.Moment.{Moment}
@@ -12,23 +13,22 @@ use Rattle.lock.proofs.Bools.{byBool}
 use Rattle.schedule.specs.Coming.{nextOf}
 use Rattle.task.specs.Coming.{delayEnd}
 use Rattle.task.specs.declared.Task.{Task}
-use Rattle.machine.specs.State.{mostTasks, taskAt, placeAt}
+use Rattle.machine.specs.State.{taskAt, placeAt}
 use Rattle.machine.specs.NextEvent.{nextEvent}
 use Rattle.machine.specs.Running.{runningOf, runner, mostPlaces, urgency}
 use Rattle.machine.specs.Test.{valid}
 use Rattle.machine.specs.declared.State.{State}
 use Rattle.machine.specs.declared.Running.{Running}
 use Rattle.urgency.specs.Leads.{noLead, Weighed, whose}
-use Rattle.survey.specs.Looks.{atEase, unfit, surveyed}
-use Rattle.survey.specs.Next.{momentOf}
 use Rattle.urgency.specs.declared.scan.Lead.{Lead}
 use Rattle.urgency.proofs.LeadLaws.{Led, canRun, led-none, led-more, led-passed}
+use Rattle.survey.specs.Looks.{atEase, unfit, surveyed}
+use Rattle.survey.specs.Next.{momentOf}
 use Rattle.survey.proofs.NextLaws.{nextAmong, among-none, among-more, among-all}
 use Rattle.survey.proofs.TaskFit.{eased-runs, busy-rests}
 use Rattle.survey.proofs.TestLaws.{fitAt, Upto, upto-none, upto-passes}
 use Rattle.order.specs.Seen.{noneSeen, withPlace, seenBy}
 use Rattle.order.specs.declared.seen.Seen.{Seen}
-use native.Mathlib.Numerals.{add-one}
 
 -- What the scan knows of the tasks below i: all are fit, when something next comes, the places, and who leads of those
 -- that can run.

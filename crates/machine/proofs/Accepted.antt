@@ -11,9 +11,9 @@ use borrow.Author.Tests.{ltb-true, ltb-false, leb-true, leb-false}
 use Rattle.calendar.specs.declared.Instant.{Instant}
 use Rattle.layout.specs.declared.Call.{Call}
 use Rattle.lock.proofs.Bools.{byBool, byEq, contra}
-use Rattle.task.specs.State.{noTask, waitOver}
-use Rattle.schedule.specs.declared.Alarm.{Alarm}
 use Rattle.lock.specs.declared.Wait.the-variants.{Nothing}
+use Rattle.schedule.specs.declared.Alarm.{Alarm}
+use Rattle.task.specs.State.{noTask, waitOver}
 use Rattle.task.specs.declared.Task.{Task}
 use Rattle.task.specs.declared.Turn.{Turn}
 use Rattle.task.specs.Continuing.{Has, SameContinuation, SameHold, GoesOn, Called, Fires}

@@ -3,6 +3,7 @@ use mathlib.Core.Path.{_≡_, refl, ap, sym, subst}
 use mathlib.Core.Bool.{Bool, true, false}
 use mathlib.Core.List.{List, [], _∷_}
 use Prim.Native.Nat.{ℕ, zero, suc, _<_}
+use native.Mathlib.Omega.{arith}
 use Rattle.layout.specs.Marks.{is as bears}
 use Rattle.layout.specs.declared.Mark.{Mark}
 use Rattle.layout.specs.declared.Mark.the-variants.{DT, DS, DB, IT, DC}
@@ -37,7 +38,6 @@ use Rattle.machine.proofs.Pairs.{Pair, serve-pair}
 use Rattle.machine.proofs.WorkPairs.{WorkPair, work-pair}
 use Rattle.machine.specs.Places.{event, moved}
 use Rattle.machine.proofs.Places.{moved-like}
-use native.Mathlib.Omega.{arith}
 
 -- Two kernels with the same counts agree where their tables are alike.
 pub alike-agree : (k : State) (ts : List Task) (ps : List ℕ) (r : Locks) (is : List Bool) → Like noTask mostTasks (k .counts .tasks) (k .tasks) ts

@@ -7,11 +7,11 @@ use native.Mathlib.Omega.{arith}
 use lib.ListN.{length, set, length-set}
 use lib.Seq.{getD-set-same, getD-set-other}
 use borrow.Author.Tests.{ltb-true, leb-true, le-leb}
-use Rattle.record.specs.Refusals.{mostValue, uses, cleanNames, cleanStart, ranged, formedAs, timed}
 use Rattle.layout.specs.declared.Form.{Form}
 use Rattle.layout.specs.declared.Form.the-variants.{DeclaredPriority, Preset}
 use Rattle.layout.specs.declared.Mark.the-variants.{DT, DS, DB, IT, DC}
 use Rattle.layout.specs.declared.Call.{Call}
+use Rattle.record.specs.Refusals.{mostValue, uses, cleanNames, cleanStart, ranged, formedAs, timed}
 use Rattle.lock.specs.Locks.{emptyBolt, waiting, valueAt, boltAt, withValue, withBolt, level, free}
 use Rattle.lock.specs.declared.Way.the-variants.{Take}
 use Rattle.lock.specs.declared.Wait.{Wait}

@@ -8,8 +8,8 @@ use lib.ListN.{length, take, length-set}
 use lib.Seq.{getD-set-same, getD-set-other}
 use Rattle.calendar.specs.Limits.{lastInstant}
 use Rattle.calendar.specs.declared.Instant.{Instant}
-use Rattle.record.specs.Refusals.{named}
 use Rattle.layout.specs.declared.Call.{Call}
+use Rattle.record.specs.Refusals.{named}
 use Rattle.lock.specs.declared.Way.the-variants.{Take, Give}
 use Rattle.lock.specs.declared.Wait.{Wait}
 use Rattle.lock.specs.declared.Locks.{Locks}

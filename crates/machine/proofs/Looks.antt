@@ -8,10 +8,10 @@ use lib.Dec.{leb, ltb, eqb}
 use borrow.Author.Tests.{ltb-true}
 use Rattle.calendar.specs.Limits.{lastInstant, isTimeOfDay}
 use Rattle.calendar.specs.declared.Instant.{Instant}
-use Rattle.record.specs.Refusals.{mostValue, named, before}
 use Rattle.layout.specs.declared.Mark.{Mark}
 use Rattle.layout.specs.declared.Mark.the-variants.{AC, TE, SU, CO}
 use Rattle.layout.specs.declared.Call.{Call}
+use Rattle.record.specs.Refusals.{mostValue, named, before}
 use Rattle.lock.specs.Locks.{waiting, taken, every, canMoveAll, valueAt, boltAt}
 use Rattle.lock.specs.declared.Way.{Way}
 use Rattle.lock.specs.declared.Way.the-variants.{Take, Give}

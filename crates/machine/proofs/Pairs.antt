@@ -19,7 +19,7 @@ use Rattle.machine.specs.declared.Running.the-variants.{Idle, Runs}
 use Rattle.machine.specs.State.{mostTasks, mostSemaphores, mostBolts, taskAt, placeAt}
 use Rattle.machine.specs.Granting.{servable}
 use Rattle.machine.specs.Serving.{Served, nextServed, grantTo, serve}
-use Rattle.machine.proofs.Urgency.{next-served-first, scan-same}
+use Rattle.machine.proofs.Urgency.{scan-same}
 use Rattle.machine.proofs.Passed.{Listed, Fits}
 use Rattle.machine.proofs.Looks.{urgency-same, servable-same}
 use Rattle.machine.specs.Running.{urgency}

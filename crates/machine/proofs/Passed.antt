@@ -9,18 +9,18 @@ use Rattle.calendar.specs.Limits.{lastInstant, isTimeOfDay}
 use Rattle.calendar.specs.declared.Instant.{Instant}
 use Rattle.layout.specs.Marks.{is, form}
 use Rattle.layout.specs.declared.Mark.{Mark}
-use Rattle.record.specs.Refusals.{mostValue, mostNumbers, formedAs, formed, named, listed, timed, unless, before, shape, times}
-use Rattle.record.specs.Lists.{distinct}
 use Rattle.layout.specs.declared.Mark.the-variants.{DT, DS, DB, IT, AC, TE, SU, TI}
 use Rattle.layout.specs.declared.Call.{Call}
+use Rattle.record.specs.Refusals.{mostValue, mostNumbers, formedAs, formed, named, listed, timed, unless, before, shape, times}
+use Rattle.record.specs.Lists.{distinct}
 use Rattle.lock.specs.Locks.{mostLocks, waiting, every, taken, valueAt, boltAt}
 use Rattle.lock.specs.declared.Locks.{Locks}
 use Rattle.lock.specs.declared.Wait.{Wait}
 use Rattle.lock.specs.declared.Wait.the-variants.{Nothing, Request, Reserve, Enter}
-use Rattle.machine.proofs.Below.{all-at}
 use Rattle.lock.proofs.Bools.{both}
 use Rattle.task.specs.State.{unheld, suspended, restOk, wanted}
 use Rattle.task.specs.declared.Task.{Task}
+use Rattle.machine.proofs.Below.{all-at}
 use Rattle.machine.specs.declared.Counts.{Counts}
 use Rattle.machine.specs.declared.State.{State}
 use Rattle.machine.specs.declared.Running.{Running}

@@ -1,17 +1,20 @@
 -- Laws of the order of events: who goes to the end stands behind all others, and the others keep their order.
 use mathlib.Core.Path.{_≡_, refl, sym, ap, _∙_}
 use mathlib.Core.Logic.{_≢_}
-use mathlib.Core.Bool.{Bool, true, false, not, cond, _&&_, _||_, or-false}
+use mathlib.Core.Bool.{Bool, true, false, not, _&&_, _||_, or-false}
 use mathlib.Core.List.{List, map}
 use Prim.Native.Nat.{ℕ, zero, suc, _+_, _-_, _≤_, _<_}
 use native.Mathlib.Nat.{not-suc-le-zero}
 use native.Mathlib.Omega.{arith}
 use lib.Dec.{ltb, eqb}
-use lib.ListN.{length, getD, set, length-set, length-map, List·getD-map}
+use lib.ListN.{length, set, length-set, length-map, List·getD-map}
 use lib.Seq.{getD-set-same, getD-set-other, set-out}
 use borrow.Author.Tests.{ltb-true, ltb-false, lt-ltb, le-ltb, eq-eqb, ne-eqb, not-true}
 use Rattle.lock.proofs.Tables.{Like}
 use Rattle.lock.proofs.Bools.{byBool, byEq, contra, both, and-both, not-of-false}
+use Rattle.lock.specs.Locks.{waiting}
+use Rattle.task.specs.State.{unheld, runnable}
+use Rattle.task.specs.declared.Task.{Task}
 use Rattle.machine.specs.State.{placeAt, taskAt}
 use Rattle.machine.specs.Sets.{holds}
 use Rattle.machine.specs.Sums.{allBelow}
@@ -19,9 +22,6 @@ use Rattle.machine.specs.Test.{placesOk}
 use Rattle.machine.specs.Places.{closeUp, toEnd, movedBelow, moved, standsBefore, event}
 use Rattle.machine.proofs.SetLaws.{has-empty}
 use Rattle.machine.proofs.Below.{all-at, all-from}
-use Rattle.lock.specs.Locks.{waiting}
-use Rattle.task.specs.State.{unheld, runnable}
-use Rattle.task.specs.declared.Task.{Task}
 
 -- n tasks have n places, each its own.
 pub record Apart (n : ℕ) (ps : List ℕ) : Type 0 where
@@ -91,7 +91,7 @@ close-order p a b f g =
     (λ y. let m = ltb-true p b y in rw (x, y) (ltb-alike (a - 1) (b - 1) a b (λ h. omega arith) (λ h. omega arith)))
     (λ y. let m = ltb-false p b y in rw (x, y) (ltb-alike (a - 1) b a b (λ h. absurd (g (omega arith))) (λ h. omega arith))))
     (λ x. let l = ltb-false p a x in byBool (ltb p b)
-    (λ y. let m = ltb-true p b y in rw (x, y) (ltb-alike a (b - 1) a b (λ h. omega arith) (λ h. let z = f in byEq a p (λ q. absurd (f q)) (λ q. omega arith))))
+    (λ y. let m = ltb-true p b y in rw (x, y) (ltb-alike a (b - 1) a b (λ h. omega arith) (λ h. byEq a p (λ q. absurd (f q)) (λ q. omega arith))))
     (λ y. rw (x, y)))
 
 -- They stay apart,

@@ -12,14 +12,15 @@ use Rattle.calendar.specs.Times.{duration, plus}
 use Rattle.calendar.specs.declared.Instant.{Instant}
 use Rattle.layout.specs.Marks.{among}
 use Rattle.layout.specs.Fields.{callOf, headOf, listOf, bytesOf}
+use Rattle.layout.specs.declared.Call.{Call}
+use Rattle.layout.specs.declared.Mark.the-variants.{TI}
 use Rattle.record.specs.Lists.{allZero}
 use Rattle.record.specs.Refusals.{uses, cleanNames, cleanStart, ranged, formed, listed, timed, shape, times}
 use Rattle.record.specs.Reading.{opened}
-use Rattle.layout.specs.declared.Call.{Call}
-use Rattle.layout.specs.declared.Mark.the-variants.{TI}
 use Rattle.task.specs.Turns.{unmarked, tickTurn}
 use Rattle.task.specs.declared.Task.{Task}
 use Rattle.task.specs.declared.Turn.{Turn}
+use Rattle.task.proofs.Laws.{still}
 use Rattle.machine.specs.declared.Counts.{Counts}
 use Rattle.machine.specs.declared.State.{State}
 use Rattle.machine.specs.declared.Stepped.{Stepped}
@@ -37,7 +38,6 @@ use Rattle.machine.specs.Step.{plainAnswer, finish, orRefuse, carryOut, 
 use Rattle.machine.specs.Log.{final, log}
 use Rattle.machine.specs.Scripts.{row, oneTick}
 use Rattle.machine.specs.Quiet.{Quiet, later, TicksAreQuiet, QuietUpToNext}
-use Rattle.task.proofs.Laws.{still}
 use Rattle.machine.proofs.Below.{mostUrgent-none}
 use Rattle.machine.proofs.NextEvent.{next-is-next, next-later}
 use Rattle.machine.proofs.Passed.{parts, tested}

@@ -3,6 +3,7 @@ use mathlib.Core.Path.{_≡_, refl}
 use mathlib.Core.Bool.{true}
 use Prim.Native.Nat.{ℕ, zero, suc, _≤_}
 use native.Mathlib.Omega.{arith}
+use mathlib.Core.List.{List}
 use Rattle.machine.specs.declared.Running.{Running}
 use Rattle.machine.specs.declared.Running.the-variants.{Idle, Runs}
 use Rattle.machine.specs.Granting.{servable}
@@ -11,7 +12,6 @@ use Rattle.machine.specs.Promises.{Chosen, AreBytes}
 use Rattle.machine.specs.Whole.{Grants, Loop, ServesAll}
 use Rattle.machine.proofs.Urgency.{next-served-first}
 use Rattle.machine.proofs.Serving.{served-free, grant-at, grant-other, waiters, waiters-le, grant-fewer, none-waits}
-use mathlib.Core.List.{List}
 
 grant-whole : (n : ℕ) (p : Served) (i : ℕ) → servable n (p .tasks) (p .locks) i ≡ true → Grants i p (grantTo i p)
 unfolding grantTo

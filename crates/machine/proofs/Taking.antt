@@ -3,7 +3,7 @@ use mathlib.Core.Path.{_≡_, refl, sym, _∙_}
 use mathlib.Core.Logic.{_≢_}
 use mathlib.Core.Bool.{Bool, true, false, not, cond, _&&_}
 use mathlib.Core.List.{List, [], _∷_}
-use Prim.Native.Nat.{ℕ, zero, suc, _≤_, _<_}
+use Prim.Native.Nat.{ℕ, suc, _≤_, _<_}
 use native.Mathlib.Nat.{not-suc-le-zero}
 use native.Mathlib.Omega.{arith}
 use lib.Dec.{ltb}
@@ -22,7 +22,7 @@ use Rattle.machine.specs.declared.Stepped.{Stepped}
 use Rattle.machine.specs.Sets.{Started}
 use Rattle.machine.specs.State.{mostTasks, taskAt, placeAt, freshTask, nothing}
 use Rattle.machine.specs.Running.{urgency}
-use Rattle.machine.specs.Places.{closeUp, event, standsBefore}
+use Rattle.machine.specs.Places.{event, standsBefore}
 use Rattle.machine.specs.Work.{Work}
 use Rattle.machine.specs.Test.{valid}
 use Rattle.machine.specs.Calls.{addTask, addSemaphore, addBolt, addInterrupt, declaration, workOf}

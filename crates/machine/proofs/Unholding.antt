@@ -15,8 +15,8 @@ use Rattle.layout.specs.declared.Mark.the-variants.{TI}
 use Rattle.lock.proofs.Bools.{byBool}
 use Rattle.schedule.specs.Alarms.{pending, falls}
 use Rattle.schedule.specs.Coming.{nextOf}
-use Rattle.task.specs.Turns.{tickTurn}
 use Rattle.schedule.specs.declared.Alarm.{Alarm}
+use Rattle.task.specs.Turns.{tickTurn}
 use Rattle.task.specs.declared.Task.{Task}
 use Rattle.task.proofs.Firing.{turned}
 use Rattle.machine.specs.declared.State.{State}

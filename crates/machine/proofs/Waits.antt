@@ -11,10 +11,10 @@ use Rattle.calendar.specs.Times.{instant}
 use Rattle.lock.specs.Locks.{emptyBolt}
 use Rattle.lock.specs.declared.Wait.the-variants.{Nothing}
 use Rattle.schedule.specs.Alarms.{noAlarm}
+use Rattle.schedule.specs.declared.Schedule.{Schedule}
 use Rattle.task.specs.Coming.{comes}
 use Rattle.task.specs.declared.Hold.the-variants.{Unheld}
 use Rattle.task.specs.declared.Kept.{Kept}
-use Rattle.schedule.specs.declared.Schedule.{Schedule}
 use Rattle.task.specs.declared.Task.{Task}
 use Rattle.machine.specs.declared.State.{State}
 use Rattle.machine.specs.declared.Answer.{Answer}

@@ -9,12 +9,12 @@ use lib.Seq.{length-take-le, getD-take}
 use lib.Dec.{ltb, eqb}
 use borrow.Author.Tests.{ltb-true}
 use Rattle.calendar.specs.declared.Instant.{Instant}
-use Rattle.record.specs.Refusals.{named}
 use Rattle.layout.specs.declared.Head.{Head}
 use Rattle.layout.specs.declared.Call.{Call}
 use Rattle.layout.specs.Marks.{is as bears}
 use Rattle.layout.specs.declared.Mark.{Mark}
 use Rattle.layout.specs.declared.Mark.the-variants.{AC, TE, SU, PR, RE, TG, EI}
+use Rattle.record.specs.Refusals.{named}
 use Rattle.lock.specs.Locks.{giveAll}
 use Rattle.lock.specs.declared.Way.the-variants.{Take, Give}
 use Rattle.lock.specs.declared.Wait.{Wait}

@@ -6,12 +6,12 @@ use lib.ListN.{set}
 use Rattle.calendar.specs.Limits.{tick as oneTick}
 use Rattle.calendar.specs.Times.{duration, plus}
 use Rattle.calendar.specs.declared.Instant.{Instant}
-use Rattle.record.specs.Refusals.{named}
 use Rattle.layout.specs.declared.Head.{Head}
 use Rattle.layout.specs.Marks.{is}
 use Rattle.layout.specs.declared.Call.{Call}
 use Rattle.layout.specs.declared.Mark.{Mark}
 use Rattle.layout.specs.declared.Mark.the-variants.{DT, DS, DB, IT, DC, AC, TE, SU, PR, RE, TG, EI}
+use Rattle.record.specs.Refusals.{named}
 use Rattle.lock.specs.Locks.{emptyBolt, withValue, withBolt, takeAll, giveAll}
 use Rattle.lock.specs.declared.Locks.{Locks}
 use Rattle.lock.specs.declared.Wait.{Wait}

@@ -21,9 +21,9 @@ use Rattle.record.specs.Reading.{accepted, callWith, opened}
 use Rattle.record.specs.declared.Read.{Read}
 use Rattle.record.specs.declared.Read.the-variants.{Refused, Accepted}
 use Rattle.lock.specs.declared.Wait.{Wait}
-use Rattle.task.specs.State.{waitFor}
 use Rattle.schedule.specs.Alarms.{setFor, armed, startOf, falls, listens}
 use Rattle.schedule.specs.Coming.{nextOf}
+use Rattle.task.specs.State.{waitFor}
 use Rattle.task.specs.Continuing.{Has, HasNone, SameContinuation, SameHold, GoesOn, Called, Fires}
 use Rattle.task.specs.declared.Hold.the-variants.{Unheld, Suspended}
 use Rattle.task.specs.declared.Task.{Task}

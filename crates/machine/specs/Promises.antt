@@ -6,10 +6,10 @@ use mathlib.Core.List.{List}
 use Prim.Native.Nat.{ℕ, _≤_, _<_}
 use lib.ListN.{length}
 use Rattle.layout.specs.Fields.{bytesOf}
+use Rattle.layout.specs.declared.Call.{Call}
 use Rattle.record.specs.Refusals.{mostNumbers, unless, before, shape}
 use Rattle.record.specs.Reading.{accepted, callWith, opened, reading}
 use Rattle.record.specs.Writing.{written}
-use Rattle.layout.specs.declared.Call.{Call}
 use Rattle.record.specs.declared.Read.{Read}
 use Rattle.record.specs.declared.Read.the-variants.{Refused, Accepted}
 use Rattle.task.specs.State.{runnable}

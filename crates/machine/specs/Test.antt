@@ -12,14 +12,14 @@ use Rattle.calendar.specs.declared.Moment.the-variants.{Never, At}
 use Rattle.record.specs.Lists.{distinct}
 use Rattle.record.specs.Refusals.{mostValue, mostNumbers}
 use Rattle.lock.specs.Locks.{waiting, every, valueAt, boltAt}
-use Rattle.task.specs.State.{restOk, wanted}
 use Rattle.schedule.specs.Alarms.{planned, pending, listening}
+use Rattle.schedule.specs.declared.Alarm.{Alarm}
+use Rattle.schedule.specs.declared.Schedule.{Schedule}
+use Rattle.task.specs.State.{restOk, wanted}
 use Rattle.task.specs.declared.Hold.{Hold}
 use Rattle.task.specs.declared.Hold.the-variants.{Unheld, Suspended, Delayed}
 use Rattle.task.specs.declared.Kept.{Kept}
 use Rattle.task.specs.declared.Kept.the-variants.{Empty, Back}
-use Rattle.schedule.specs.declared.Alarm.{Alarm}
-use Rattle.schedule.specs.declared.Schedule.{Schedule}
 use Rattle.task.specs.declared.Task.{Task}
 use Rattle.machine.specs.declared.Counts.{Counts}
 use Rattle.machine.specs.declared.State.{State}

@@ -5,8 +5,8 @@ use mathlib.Core.Bool.{Bool, true, false}
 use mathlib.Core.List.{List}
 use Prim.Native.Nat.{ℕ, _<_, _^_}
 use lib.ListN.{set}
-use Rattle.record.specs.Refusals.{named}
 use Rattle.layout.specs.declared.Call.{Call}
+use Rattle.record.specs.Refusals.{named}
 use Rattle.lock.specs.Locks.{grantable, takeAll}
 use Rattle.lock.specs.declared.Wait.{Wait}
 use Rattle.task.specs.State.{wanted, waitFor, waitOver}

@@ -1,16 +1,15 @@
 -- The places seen are the first n, all below 32, exactly where n tasks have them, each its own.
 use mathlib.Core.Path.{_≡_, refl, sym, ap, _∙_}
-use mathlib.Core.Bool.{Bool, true, false, not, cond, _||_}
+use mathlib.Core.Bool.{true, not, cond, _||_}
 use mathlib.Core.List.{List}
-use Prim.Native.Nat.{ℕ, zero, suc, _+_, _-_, _*_, _/_, _%_, _^_, _≤_, _<_, max}
+use Prim.Native.Nat.{ℕ, zero, suc, _-_, _/_, _%_, _^_, _≤_, _<_}
 use native.Mathlib.Nat.{not-suc-le-zero, mod-eq-of-lt, pow-suc}
 use native.Mathlib.Omega.{arith}
 use lib.Bits.{bitOr, or-lt, or-add-and, and-le-l, and-le-r}
 use lib.Dec.{eqb, leb, ltb}
-use borrow.Author.Tests.{ltb-true, ltb-false, lt-ltb, le-ltb, lt-leb, leb-false, eqb-true, eq-eqb, ne-eqb, le-leb, not-true, not-false}
-use Rattle.lock.specs.Locks.{bit}
+use borrow.Author.Tests.{ltb-true, ltb-false, lt-leb, leb-false, eqb-true, eq-eqb, ne-eqb}
 use Rattle.lock.proofs.Bools.{byBool, byEq, contra}
-use Rattle.machine.specs.Sets.{has, put}
+use Rattle.machine.specs.Sets.{has}
 use Rattle.machine.specs.State.{mostTasks, placeAt}
 use Rattle.machine.specs.Sums.{allBelow}
 use Rattle.machine.specs.Test.{placesOk}

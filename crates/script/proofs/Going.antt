@@ -13,6 +13,7 @@ use Rattle.calendar.specs.Times.{duration, plus}
 use Rattle.calendar.specs.Moments.{upTo}
 use Rattle.calendar.proofs.Moments.{up-to-before}
 use Rattle.layout.specs.Fields.{recordLength, Octets}
+use Rattle.lock.proofs.Bools.{byBool, both}
 use Rattle.machine.specs.Invariants.{IsDay, Tables}
 use Rattle.machine.specs.NextEvent.{nextEvent}
 use Rattle.machine.specs.Quiet.{Quiet}
@@ -33,15 +34,14 @@ use Rattle.machine.proofs.Refused.{untested-refused}
 use Rattle.lines.specs.Buffers.{placed, Wrote}
 use Rattle.lines.specs.Lines.{line, longestLine}
 use Rattle.lines.proofs.PlacedLaws.{then}
-use Rattle.lock.proofs.Bools.{byBool, both}
 use Rattle.calls.specs.Stirring.{isTick}
+use Rattle.calls.proofs.StirLaws.{tick-bytes}
 use Rattle.script.specs.Records.{records}
 use Rattle.script.specs.Printed.{shown, printed}
 use Rattle.script.specs.Script.{goingOn, afterText, carried, some, Tells, Runs}
 use Rattle.script.specs.declared.Script.{Script}
 use Rattle.script.proofs.RecordLaws.{record-at, records-over}
 use Rattle.script.proofs.CarryLaws.{goes-on, carried-none, carried-stop, carried-go, after-after}
-use Rattle.calls.proofs.StirLaws.{tick-bytes}
 use Rattle.script.proofs.PrintLaws.{says, says-line}
 
 isDay : IsDay day

@@ -1,26 +1,24 @@
 -- How a call ends, with or without serving.
-use mathlib.Core.Path.{_≡_, refl, sym, _∙_, ap}
-use mathlib.Core.Bool.{Bool, true, false, not, _||_, or-true}
+use mathlib.Core.Path.{_≡_, refl, _∙_}
+use mathlib.Core.Bool.{Bool, true, false, not, _||_}
 use mathlib.Core.List.{List}
-use Prim.Native.Nat.{ℕ, _≤_, _<_, min}
+use Prim.Native.Nat.{ℕ, _≤_, _<_}
 use native.Mathlib.Nat.{min-eq-left}
 use native.Mathlib.Omega.{arith}
 use lib.Bits.{bitOr}
 use lib.ListN.{length}
-use Rattle.lock.proofs.Bools.{byBool}
 use Rattle.task.specs.State.{runnable}
 use Rattle.task.specs.declared.Task.{Task}
 use Rattle.machine.specs.Places.{event, moved}
 use Rattle.machine.specs.Running.{mostUrgent, runningOf}
 use Rattle.machine.specs.Serving.{nextServed}
 use Rattle.machine.specs.Sets.{holds, withGranted}
-use Rattle.machine.specs.State.{mostTasks, taskAt, withPlaces, begunAt}
+use Rattle.machine.specs.State.{mostTasks, withPlaces, begunAt}
 use Rattle.machine.specs.Step.{finish}
 use Rattle.machine.specs.Test.{placesOk}
 use Rattle.machine.specs.declared.Running.the-variants.{Idle}
 use Rattle.machine.specs.declared.Sets.{Sets}
 use Rattle.machine.specs.declared.State.{State}
-use Rattle.machine.specs.declared.Stepped.{Stepped}
 use Rattle.machine.proofs.Places.{apart-of, moved-alike, event-runnable}
 use Rattle.machine.proofs.Urgency.{scan-same, scan-passing}
 use Rattle.urgency.specs.Leads.{whose, urgencyThen}
@@ -30,10 +28,10 @@ use Rattle.urgency.specs.declared.sets.Standing.{Standing}
 use Rattle.urgency.proofs.LeadLaws.{canRun}
 use Rattle.order.proofs.Behind.{then-urgent}
 use Rattle.order.proofs.EventLaws.{holds-or}
-use Rattle.serving.specs.Ends.{Rounded, asBefore, workHere, answerOf}
 use Rattle.waiters.specs.Served.{served, withServed, servedOf}
-use Rattle.serving.specs.declared.ends.Round.{Round}
 use Rattle.waiters.proofs.ServeLaws.{served-idle}
+use Rattle.serving.specs.Ends.{Rounded, asBefore, workHere, answerOf}
+use Rattle.serving.specs.declared.ends.Round.{Round}
 
 -- Of the runnable tasks those with an event.
 abbrev pub lateBy : Standing → ℕ → ℕ → Bool

@@ -28,8 +28,8 @@ use Rattle.machine.specs.declared.Counts.{Counts}
 use Rattle.machine.specs.declared.State.{State}
 use Rattle.machine.proofs.Below.{all-at}
 use Rattle.machine.proofs.Passed.{counts-fit, count-fits}
-use Rattle.survey.specs.Looks.{waitSettled}
 use Rattle.granting.proofs.Owned.{Owned, values-small, readers-small}
+use Rattle.survey.specs.Looks.{waitSettled}
 use Rattle.survey.proofs.TaskFit.{fit}
 
 -- ---- the first n numbers of a list

@@ -41,17 +41,17 @@ use Rattle.machine.proofs.Granting.{WaitsAlike, servable-alike}
 use Rattle.machine.proofs.Passed.{parts, tested}
 use Rattle.machine.proofs.Works.{turn-at}
 use Rattle.machine.proofs.SetLaws.{members-each, each-same, setOf-lt}
-use Rattle.survey.proofs.TestLaws.{wait-of}
-use Rattle.survey.specs.Looks.{waitsOk}
-use Rattle.urgency.specs.Puts.{putIf, putMarks}
-use Rattle.serving.specs.Ends.{workHere, answerOf, asBefore}
-use Rattle.waiters.specs.Served.{served, servedOf}
 use Rattle.machine.specs.declared.Sets.{Sets}
-use Rattle.serving.proofs.TurnCases.{sound}
 use Rattle.machine.specs.declared.Running.{Running}
 use Rattle.machine.specs.declared.Running.the-variants.{Idle}
-use Rattle.waiters.proofs.ServeLaws.{served-idle}
 use Rattle.machine.specs.Places.{event, moved}
+use Rattle.urgency.specs.Puts.{putIf, putMarks}
+use Rattle.survey.proofs.TestLaws.{wait-of}
+use Rattle.survey.specs.Looks.{waitsOk}
+use Rattle.waiters.specs.Served.{served, servedOf}
+use Rattle.waiters.proofs.ServeLaws.{served-idle}
+use Rattle.serving.specs.Ends.{workHere, answerOf, asBefore}
+use Rattle.serving.proofs.TurnCases.{sound}
 
 -- ---- a set with one more place
 

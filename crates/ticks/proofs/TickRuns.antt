@@ -4,7 +4,6 @@ use mathlib.Core.Logic.{_≢_}
 use mathlib.Core.Bool.{Bool, true, false, not, _&&_, cond, _||_}
 use mathlib.Core.List.{List}
 use Prim.Native.Nat.{ℕ, _+_, _*_, _≤_, _<_}
-use native.Mathlib.Nat.{le-antisymm}
 use native.Mathlib.Omega.{arith}
 use lib.Dec.{ltb}
 use lib.ListN.{length, set, length-set}
@@ -13,9 +12,9 @@ use borrow.Author.Tests.{lt-ltb, ltb-true, ltb-false, not-true}
 use Rattle.calendar.specs.declared.Instant.{Instant}
 use Rattle.lock.specs.Locks.{waiting}
 use Rattle.lock.proofs.Bools.{byBool, byEq, contra, both}
-use Rattle.task.specs.State.{noTask, runnable, unheld, withSchedule}
 use Rattle.schedule.specs.Alarms.{falls}
 use Rattle.schedule.specs.Schedules.{advance}
+use Rattle.task.specs.State.{noTask, runnable, unheld, withSchedule}
 use Rattle.task.specs.Continuations.{continueAt}
 use Rattle.task.specs.Turns.{dueIf, delayEnds, wake, fallTurn, tickTurn}
 use Rattle.task.proofs.Alike.{like-continue-at}
@@ -26,23 +25,23 @@ use Rattle.task.specs.declared.Kept.{Kept}
 use Rattle.task.specs.declared.Kept.the-variants.{Empty, Back}
 use Rattle.task.specs.declared.Task.{Task}
 use Rattle.task.specs.declared.Turn.{Turn}
+use Rattle.task.proofs.Waits.{no-wait-tick}
 use Rattle.machine.specs.State.{mostTasks, taskAt, placeAt}
 use Rattle.machine.specs.Running.{urgency, mostUrgent, runningOf, mostPlaces}
 use Rattle.machine.specs.declared.Running.{Running}
 use Rattle.machine.specs.declared.Running.the-variants.{Idle, Runs}
 use Rattle.machine.proofs.Below.{Found, scan-finds, mostUrgent-at}
-use Rattle.urgency.specs.Leads.{nobody, noLead, leadOf, against, Weighed, Leads, urgencyThen}
-use Rattle.urgency.specs.declared.scan.Lead.{Lead}
-use Rattle.urgency.proofs.LeadLaws.{canRun, leads-nobody, leads-one, nobody-late}
 use Rattle.machine.specs.Sets.{has, holds}
 use Rattle.machine.specs.Places.{event}
 use Rattle.machine.proofs.Places.{Apart}
 use Rattle.machine.proofs.Urgency.{scan-same}
 use Rattle.machine.proofs.SetLaws.{has-empty}
+use Rattle.urgency.specs.Leads.{nobody, noLead, leadOf, against, Weighed, Leads, urgencyThen}
+use Rattle.urgency.specs.declared.scan.Lead.{Lead}
+use Rattle.urgency.proofs.LeadLaws.{canRun, leads-nobody, leads-one, nobody-late}
 use Rattle.urgency.specs.Puts.{putIf}
 use Rattle.urgency.specs.Standing.{turnedIf}
 use Rattle.urgency.proofs.SetTill.{put-here, put-other}
-use Rattle.task.proofs.Waits.{no-wait-tick}
 
 -- ---- one number that changes
 

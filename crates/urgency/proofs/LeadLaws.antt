@@ -17,9 +17,9 @@ use Rattle.machine.specs.Sets.{holds}
 use Rattle.machine.specs.Running.{urgency, better, mostUrgent}
 use Rattle.machine.specs.declared.Running.{Running}
 use Rattle.machine.specs.declared.Running.the-variants.{Idle, Runs}
+use Rattle.machine.proofs.SetLaws.{has-empty}
 use Rattle.urgency.specs.Leads.{nobody, noLead, leadOf, against, Weighed, whose, Leads, urgencyThen}
 use Rattle.urgency.specs.declared.scan.Lead.{Lead}
-use Rattle.machine.proofs.SetLaws.{has-empty}
 
 -- The lead among the first n tasks, of those that pass a test, by the urgencies u.
 abbrev pub Led : ℕ → (ℕ → Bool) → (ℕ → ℕ) → Lead → Type 0

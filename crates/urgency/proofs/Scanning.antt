@@ -3,7 +3,6 @@ use mathlib.Core.Path.{_≡_, _∙_}
 use mathlib.Core.Bool.{Bool, cond}
 use Prim.Native.Nat.{ℕ, _+_, _*_, _≤_, min}
 use native.Mathlib.Nat.{le-antisymm}
-use native.Mathlib.Omega.{arith}
 use Rattle.lock.specs.Locks.{waiting}
 use Rattle.machine.specs.Running.{mostPlaces}
 use Rattle.machine.specs.Sets.{holds}
@@ -11,7 +10,7 @@ use Rattle.machine.specs.State.{mostTasks, taskAt, placeAt}
 use Rattle.machine.specs.declared.State.{State}
 use Rattle.urgency.specs.Leads.{noLead, Weighed, urgencyThen}
 use Rattle.urgency.specs.Puts.{putIf}
-use Rattle.urgency.specs.Standing.{Stands, Scanned}
+use Rattle.urgency.specs.Standing.{Scanned}
 use Rattle.urgency.specs.declared.scan.Lead.{Lead}
 use Rattle.urgency.proofs.LeadLaws.{Led, canRun, led-none, led-more}
 use Rattle.urgency.proofs.SetTill.{Till, till-none, till-more}

@@ -1,5 +1,5 @@
 -- For whom it has changed whether it is runnable or waits, as one task after the other changes.
-use mathlib.Core.Path.{_≡_, refl, sym, _∙_}
+use mathlib.Core.Path.{_≡_}
 use mathlib.Core.Logic.{_≢_}
 use mathlib.Core.Bool.{Bool, true, false, not}
 use mathlib.Core.List.{List}
@@ -7,7 +7,7 @@ use Prim.Native.Nat.{ℕ, _<_}
 use lib.ListN.{length, set}
 use lib.Seq.{getD-set-same, getD-set-other}
 use Rattle.lock.specs.Locks.{waiting}
-use Rattle.lock.proofs.Bools.{byEq, contra}
+use Rattle.lock.proofs.Bools.{byEq}
 use Rattle.task.specs.State.{noTask, runnable}
 use Rattle.task.specs.declared.Task.{Task}
 use Rattle.machine.specs.Sets.{holds}

@@ -2,9 +2,9 @@
 use Prim.Native.Nat.{_-_}
 use native.Mathlib.Omega.{arith}
 use lib.Bits.{bitAnd}
+use borrow.Author.Needs.{needs}
 use Rattle.machine.specs.Places.{event}
 use Rattle.order.proofs.EventLaws.{holds-and, holds-or, holds-not}
-use borrow.Author.Needs.{needs}
 use Rattle.order.proofs.events_of.Statement.{statement}
 use Rattle.order.proofs.events_of.Tie as tie
 

@@ -1,10 +1,10 @@
 -- The places below j have moved up.
 use borrow.Author.Needs.{needs}
-use mathlib.Core.Path.{_≡_, refl, sym, _∙_}
+use mathlib.Core.Path.{_≡_, refl}
 use mathlib.Core.Logic.{⊎-elim}
 use Prim.Native.Nat.{_≤_, _-_}
 use native.Mathlib.Omega.{arith}
-use lib.ListN.{length, length-map}
+use lib.ListN.{length}
 use Rattle.machine.specs.State.{placeAt}
 use Rattle.order.proofs.Closing.{Closing, closing-none, closing-up, closing-stay, closing-all}
 use Rattle.order.proofs.to_end.Statement.{statement}

@@ -14,6 +14,8 @@ use Rattle.layout.specs.declared.Call.{Call}
 use Rattle.lock.proofs.Bools.{neither}
 use Rattle.task.specs.Turns.{tickTurn}
 use Rattle.task.proofs.Laws.{still}
+use Rattle.task.specs.State.{runnable}
+use Rattle.task.specs.declared.Turn.{Turn}
 use Rattle.machine.specs.State.{mostTasks, taskAt, withState, begunAt, placeAt}
 use Rattle.machine.specs.Running.{runningOf}
 use Rattle.machine.specs.Serving.{nextServed}
@@ -25,22 +27,20 @@ use Rattle.machine.specs.Step.{finish, refuse, orRefuse}
 use Rattle.machine.specs.declared.State.{State}
 use Rattle.machine.specs.declared.Running.{Running}
 use Rattle.machine.specs.declared.Running.the-variants.{Idle}
-use Rattle.serving.specs.Ends.{answerOf}
-use Rattle.waiters.specs.Served.{served}
 use Rattle.machine.proofs.Passed.{tested, parts}
 use Rattle.machine.proofs.Turns.{good-tick}
+use Rattle.machine.specs.Places.{moved}
+use Rattle.machine.specs.Sets.{holds}
 use Rattle.granting.proofs.Owned.{Owned, tasks-long, tables-long}
+use Rattle.urgency.proofs.SetTill.{Till, till-none, till-more, till-still, unlike}
+use Rattle.urgency.specs.Standing.{turnedIf, Turned}
+use Rattle.waiters.specs.Served.{served}
+use Rattle.serving.specs.Ends.{answerOf}
 use Rattle.ticks.proofs.EveryTask.{Made, made-none, made-all, made-more, made-still, task-now, Steady, steady-more, steady-still, tick-keeps, everyDone, every-waits, every-idle, every-unserved, every-served, tick-early, tick-late}
 use Rattle.ticks.proofs.StirLaws.{nothing-comes}
 use Rattle.ticks.proofs.TickRuns.{Leading, leading-none, leading-from, leading-more, leading-still, runs-below}
 use Rattle.ticks.proofs.ticked.Statement.{statement}
-use Rattle.urgency.proofs.SetTill.{Till, till-none, till-more, till-still, unlike}
-use Rattle.urgency.specs.Standing.{turnedIf, Turned}
 use Rattle.ticks.proofs.TickEnds.{turns, unturned, places-apart, turned-moves, turned-all, turned-leads}
-use Rattle.task.specs.State.{runnable}
-use Rattle.task.specs.declared.Turn.{Turn}
-use Rattle.machine.specs.Places.{moved}
-use Rattle.machine.specs.Sets.{holds}
 use Rattle.ticks.proofs.ticked.Tie as tie
 
 abbrev Inv-loop : tie.InvT-loop

@@ -14,11 +14,11 @@ use Rattle.task.specs.declared.Task.{Task}
 use Rattle.machine.specs.State.{mostTasks, taskAt}
 use Rattle.machine.specs.Granting.{available, servable}
 use Rattle.machine.specs.declared.State.{State}
+use Rattle.machine.specs.Running.{urgency}
 use Rattle.granting.specs.Writers.{Known, TellsFor}
 use Rattle.granting.proofs.Owned.{Owned, list-long}
-use Rattle.machine.specs.Running.{urgency}
-use Rattle.urgency.proofs.LeadLaws.{Led, led-none, led-more, led-passed, weighed, against-later}
 use Rattle.granting.proofs.WriterLaws.{known-none, ready-told, ready-known, shows-here}
+use Rattle.urgency.proofs.LeadLaws.{Led, led-none, led-more, led-passed, weighed, against-later}
 use Rattle.waiters.proofs.WaitLaws.{Listed, tasks-fit, listed, servable-idle, servable-each}
 use Rattle.waiters.proofs.next_served.Statement.{statement}
 use Rattle.waiters.proofs.next_served.Tie as tie

@@ -5,6 +5,7 @@ use mathlib.Core.Bool.{true}
 use mathlib.Core.Logic.{⊎-elim}
 use Prim.Native.Nat.{_<_}
 use native.Mathlib.Omega.{arith}
+use lib.ListN.{set}
 use Rattle.calendar.specs.Limits.{day}
 use Rattle.record.specs.Reading.{callWith}
 use Rattle.machine.specs.State.{mostTasks}
@@ -14,15 +15,14 @@ use Rattle.machine.specs.Refusals.{formalRefusal, stateRefusal}
 use Rattle.machine.proofs.Passed.{tested, parts}
 use Rattle.granting.specs.Writers.{TellsFor}
 use Rattle.granting.proofs.WriterLaws.{known-none, ready-told, ready-known}
-use Rattle.refusals.specs.Inner.{aboutOne}
+use Rattle.granting.proofs.Owned.{tasks-long}
+use Rattle.urgency.specs.Standing.{Turned}
+use Rattle.urgency.proofs.Turning.{turned-more}
 use Rattle.serving.proofs.TurnCases.{sound}
+use Rattle.refusals.specs.Inner.{aboutOne}
 use Rattle.changes.proofs.CallLaws.{in-order, place-in, ground, settled-refused}
 use Rattle.changes.proofs.ChangeLaws.{returnable, change-waits, change-done}
 use Rattle.calls.proofs.step.done_to.Statement.{statement}
-use Rattle.urgency.specs.Standing.{Turned}
-use Rattle.urgency.proofs.Turning.{turned-more}
-use lib.ListN.{set}
-use Rattle.granting.proofs.Owned.{tasks-long}
 use Rattle.calls.proofs.step.done_to.Tie as tie
 
 -- What is known at the start.

@@ -1,6 +1,6 @@
 -- 32 ones moved down.
-use Rattle.order.proofs.SeenLaws.{first-found}
 use borrow.Author.Needs.{needs}
+use Rattle.order.proofs.SeenLaws.{first-found}
 use Rattle.order.proofs.seen.first_places.Statement.{statement}
 use Rattle.order.proofs.seen.first_places.Tie as tie
 

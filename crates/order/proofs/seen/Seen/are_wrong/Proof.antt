@@ -1,6 +1,6 @@
 -- By the law of the places seen.
-use Rattle.order.proofs.SeenLaws.{wrong-is}
 use borrow.Author.Needs.{needs}
+use Rattle.order.proofs.SeenLaws.{wrong-is}
 use Rattle.order.proofs.seen.Seen.are_wrong.Statement.{statement}
 use Rattle.order.proofs.seen.Seen.are_wrong.Tie as tie
 
