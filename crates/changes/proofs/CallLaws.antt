@@ -1,8 +1,8 @@
 -- What a call or declaration that no formal ground refuses has passed, and what it comes to.
 use mathlib.Core.Path.{_≡_, refl, sym, ap, _∙_}
-use mathlib.Core.Bool.{true, false, _&&_}
+use mathlib.Core.Bool.{true, false}
 use mathlib.Core.List.{List}
-use Prim.Native.Nat.{ℕ, zero, suc, _≤_, _<_, _%_}
+use Prim.Native.Nat.{ℕ, zero, suc, _≤_, _<_}
 use native.Mathlib.Omega.{arith}
 use lib.Dec.{leb, ltb}
 use borrow.Author.Tests.{leb-true, ltb-true}
@@ -10,12 +10,11 @@ use Rattle.layout.specs.Marks.{form}
 use Rattle.layout.specs.declared.Call.{Call}
 use Rattle.layout.specs.declared.Head.{Head}
 use Rattle.layout.specs.declared.Mark.{Mark}
-use Rattle.layout.specs.declared.Mark.the-variants.{DS, TI}
-use Rattle.layout.specs.declared.Form.the-variants.{Preset}
+use Rattle.layout.specs.declared.Mark.the-variants.{TI}
 use Rattle.layout.proofs.MarksLaws.{is-mark}
 use Rattle.record.specs.Lists.{distinct}
 use Rattle.record.specs.Reading.{callWith}
-use Rattle.record.specs.Refusals.{mostNumbers, mostValue, named, uses, cleanNames, cleanStart, ranged}
+use Rattle.record.specs.Refusals.{mostNumbers, named}
 use Rattle.record.specs.declared.Read.the-variants.{Refused, Accepted}
 use Rattle.record.specs.declared.Reading.{Reading}
 use Rattle.lock.specs.Locks.{every}
@@ -35,7 +34,7 @@ use Rattle.machine.specs.Refusals.{listDeclared, declaredBy, formalRefusal, adm
 use Rattle.machine.specs.Calls.{declaration, tick, interruptBy, workBy}
 use Rattle.machine.specs.Step.{refuse, declared, finish, orRefuse, carryOut, settle, step}
 use Rattle.machine.proofs.Urgency.{Below, runner-below}
-use Rattle.machine.proofs.Passed.{Formal, formal, formal-as}
+use Rattle.machine.proofs.Passed.{Formal, formal}
 use Rattle.machine.proofs.Sorts.{listing, tick-mark, list-mark, list-shape, no-list}
 use Rattle.refusals.specs.Inner.{InOrder}
 use Rattle.serving.proofs.AskLaws.{list-below}
@@ -49,16 +48,6 @@ module _ (day : ℕ) (k : State) (h : Head) (l : List ℕ) where
   module _ (f : formalRefusal day (k .counts) (k .begun) call ≡ 0) where
     pub past : Formal day (h .mark) (k .counts) (k .begun) call
     past = formal day (k .counts) (k .begun) call f
-
-    -- ---- declarations
-
-    pub preset-same : h .mark ≡ DS → h .first % 65536 ≡ h .first
-    unfolding ranged
-    preset-same e =
-        let g = formal-as {day = day} {n = k .counts} {begun = k .begun} {c = call} e past .formed in
-        let b = both (cleanNames (uses Preset h) call) (cleanStart (uses Preset h) h && ranged Preset h) g .1 in
-        let m = leb-true (h .first) mostValue (both (cleanStart (uses Preset h) h) (ranged Preset h) b .1) in
-        omega (arith, m)
 
     -- ---- the list, if there is one
 

@@ -1,7 +1,5 @@
 // What a call does to the task that it is about and to the locks.
 pub mod activate;
-pub mod declarations;
-pub mod fresh;
 
 ghost use mathlib.Core.Path.{_≡_};
 ghost use Prim.Native.Nat.{ℕ, _≤_};

@@ -8,7 +8,7 @@ ghost use Rattle.kernel.specs.Reply.{reply};
 use crate::Kernel;
 use crate::Reply;
 use calls::step::step;
-use changes::fresh::fresh;
+use declaring::fresh::fresh;
 use layout::Call;
 use layout::fields::bytes_of;
 use machine::Running;

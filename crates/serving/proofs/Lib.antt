@@ -2,3 +2,4 @@
 pub mod TurnCases
 pub mod AskLaws
 pub mod EndLaws
+pub mod EveryTask

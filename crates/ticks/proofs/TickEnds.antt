@@ -30,7 +30,7 @@ use Rattle.urgency.specs.declared.scan.Lead.{Lead}
 use Rattle.urgency.proofs.LeadLaws.{canRun}
 use Rattle.urgency.proofs.SetTill.{Till}
 use Rattle.order.proofs.Behind.{then-urgent}
-use Rattle.ticks.proofs.EveryTask.{KeepsWait, tick-keeps, everyEvent}
+use Rattle.serving.proofs.EveryTask.{KeepsWait, tick-keeps, everyEvent}
 use Rattle.ticks.proofs.TickRuns.{Leading, tick-event}
 
 -- Whether task i turns from runnable to not or back.

@@ -36,7 +36,7 @@ use Rattle.urgency.proofs.SetTill.{Till, till-none, till-more, till-still, unli
 use Rattle.urgency.specs.Standing.{turnedIf, Turned}
 use Rattle.waiters.specs.Served.{served}
 use Rattle.serving.specs.Ends.{answerOf}
-use Rattle.ticks.proofs.EveryTask.{Made, made-none, made-all, made-more, made-still, task-now, Steady, steady-more, steady-still, tick-keeps, everyDone, every-waits, every-idle, every-unserved, every-served, tick-early, tick-late}
+use Rattle.serving.proofs.EveryTask.{Made, made-none, made-all, made-more, made-still, task-now, Steady, steady-more, steady-still, tick-keeps, everyDone, every-waits, every-idle, every-unserved, every-served, tick-early, tick-late}
 use Rattle.ticks.proofs.StirLaws.{nothing-comes}
 use Rattle.ticks.proofs.TickRuns.{Leading, leading-none, leading-from, leading-more, leading-still, runs-below}
 use Rattle.ticks.proofs.ticked.Statement.{statement}

@@ -1,8 +1,8 @@
 -- The next place, and the count.
 use borrow.Author.Needs.{needs}
 use Rattle.machine.specs.Calls.{addBolt}
-use Rattle.changes.proofs.declarations.add_bolt.Statement.{statement}
-use Rattle.changes.proofs.declarations.add_bolt.Tie as tie
+use Rattle.declaring.proofs.add_bolt.Statement.{statement}
+use Rattle.declaring.proofs.add_bolt.Tie as tie
 
 empty-bolt-requires : tie.Need-empty-bolt-requires
 empty-bolt-requires c κs = search needs

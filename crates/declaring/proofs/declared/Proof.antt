@@ -15,13 +15,13 @@ use Rattle.machine.specs.declared.Stepped.{Stepped}
 use Rattle.machine.specs.Refusals.{roomFor}
 use Rattle.machine.specs.Calls.{addSemaphore, declaration}
 use Rattle.machine.specs.Step.{refuse, declared}
-use Rattle.machine.proofs.Passed.{room-task, room-semaphore, room-bolt, room-interrupt}
-use Rattle.changes.proofs.CallLaws.{past, preset-same}
-use Rattle.changes.proofs.declarations.declared.Statement.{statement}
-use Rattle.changes.proofs.declarations.declared.Tie as tie
+use Rattle.machine.proofs.Passed.{formal, room-task, room-semaphore, room-bolt, room-interrupt}
+use Rattle.declaring.proofs.Presets.{preset-same}
+use Rattle.declaring.proofs.declared.Statement.{statement}
+use Rattle.declaring.proofs.declared.Tie as tie
 
 room : (s : tie.Start) {m : Mark} → s .args .h .mark ≡ m → roomFor m (s .args .k .counts) ≡ true
-room s {m} e = let a = s .args in rw (← e) (past day (a .k) (a .h) (s .pre .1 .0) (s .pre .1 .1) .room)
+room s {m} e = let a = s .args in rw (← e) (formal day (a .k .counts) (a .k .begun) (callWith (a .h) (s .pre .1 .0)) (s .pre .1 .1) .room)
 
 -- The answer z has the state d, as the mark m leaves it.
 left : (s : tie.Start) (l : List ℕ) {m : Mark} {z : Stepped} {d : State} → s .args .h .mark ≡ m → z ≡ refuse d 0 (s .args .r)

@@ -2,8 +2,8 @@
 use borrow.Author.Needs.{needs}
 use mathlib.Core.Path.{refl}
 use Rattle.machine.specs.Calls.{addSemaphore}
-use Rattle.changes.proofs.declarations.add_semaphore.Statement.{statement}
-use Rattle.changes.proofs.declarations.add_semaphore.Tie as tie
+use Rattle.declaring.proofs.add_semaphore.Statement.{statement}
+use Rattle.declaring.proofs.add_semaphore.Tie as tie
 
 cast-locks : tie.Need-cast-locks
 cast-locks c = search needs

@@ -4,8 +4,8 @@ use Rattle.machine.specs.Work.{onlyEnabled}
 use Rattle.machine.specs.Step.{finish}
 use Rattle.survey.specs.Looks.{waitsOk}
 use Rattle.serving.proofs.AskLaws.{interrupt-fits}
-use Rattle.ticks.proofs.enabled_as.Statement.{statement}
-use Rattle.ticks.proofs.enabled_as.Tie as tie
+use Rattle.interrupts.proofs.enabled_as.Statement.{statement}
+use Rattle.interrupts.proofs.enabled_as.Tie as tie
 
 element-write-k : tie.Need-element-write-k
 element-write-k c = interrupt-fits (c .args .t1) (c .pre .0) (c .args .i) (c .pre .1 .1)

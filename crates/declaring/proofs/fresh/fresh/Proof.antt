@@ -1,8 +1,8 @@
 -- Each table repeats one value, given by its own contract.
 use borrow.Author.Needs.{needs}
 use Rattle.machine.specs.State.{nothing}
-use Rattle.changes.proofs.fresh.fresh.Statement.{statement}
-use Rattle.changes.proofs.fresh.fresh.Tie as tie
+use Rattle.declaring.proofs.fresh.fresh.Statement.{statement}
+use Rattle.declaring.proofs.fresh.fresh.Tie as tie
 
 empty-bolt-requires : tie.Need-empty-bolt-requires
 empty-bolt-requires c κs = search needs

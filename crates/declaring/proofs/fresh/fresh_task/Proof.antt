@@ -1,8 +1,8 @@
 -- Each field as written, schedule and continuation by their own contracts.
 use borrow.Author.Needs.{needs}
 use Rattle.machine.specs.State.{freshTask}
-use Rattle.changes.proofs.fresh.fresh_task.Statement.{statement}
-use Rattle.changes.proofs.fresh.fresh_task.Tie as tie
+use Rattle.declaring.proofs.fresh.fresh_task.Statement.{statement}
+use Rattle.declaring.proofs.fresh.fresh_task.Tie as tie
 
 none-requires : tie.Need-none-requires
 none-requires c κs = search needs

@@ -9,9 +9,9 @@ use Rattle.machine.proofs.Passed.{tested, parts}
 use Rattle.machine.proofs.Turns.{good-trigger}
 use Rattle.granting.proofs.Owned.{tasks-long}
 use Rattle.serving.proofs.TurnCases.{sound}
-use Rattle.ticks.proofs.EveryTask.{every-finish, every-waits, trigger-on, trigger-off}
-use Rattle.ticks.proofs.triggered.Statement.{statement}
-use Rattle.ticks.proofs.triggered.Tie as tie
+use Rattle.serving.proofs.EveryTask.{every-finish, every-waits, trigger-on, trigger-off}
+use Rattle.interrupts.proofs.triggered.Statement.{statement}
+use Rattle.interrupts.proofs.triggered.Tie as tie
 
 isDay : IsDay day
 isDay = record { some = omega arith; room = omega arith }

@@ -1,4 +1,6 @@
 // Declarations: the next place of the kind is filled whole.
+pub mod fresh;
+
 ghost use mathlib.Core.Path.{_≡_};
 ghost use mathlib.Core.List.{List};
 ghost use Prim.Native.Nat.{ℕ, _<_};

@@ -12,9 +12,9 @@ use Rattle.task.proofs.Laws.{deaf}
 use Rattle.granting.proofs.Owned.{tasks-long}
 use Rattle.urgency.specs.Standing.{Turned}
 use Rattle.urgency.proofs.Turning.{turned-more}
-use Rattle.ticks.proofs.EveryTask.{Made, made-none, made-all, made-long, made-more, made-still, task-now}
-use Rattle.ticks.proofs.trigger_all.Statement.{statement}
-use Rattle.ticks.proofs.trigger_all.Tie as tie
+use Rattle.serving.proofs.EveryTask.{Made, made-none, made-all, made-long, made-more, made-still, task-now}
+use Rattle.interrupts.proofs.trigger_all.Statement.{statement}
+use Rattle.interrupts.proofs.trigger_all.Tie as tie
 
 abbrev Inv-loop : tie.InvT-loop
 Inv-loop interrupt k₀ most n clock m₀ turned₀ i₀ k m turned i =

@@ -1,8 +1,8 @@
 -- The next place of the table, the place of its number, and the count.
 use borrow.Author.Needs.{needs}
 use Rattle.machine.specs.Calls.{addTask}
-use Rattle.changes.proofs.declarations.add_task.Statement.{statement}
-use Rattle.changes.proofs.declarations.add_task.Tie as tie
+use Rattle.declaring.proofs.add_task.Statement.{statement}
+use Rattle.declaring.proofs.add_task.Tie as tie
 
 fresh-task-requires : tie.Need-fresh-task-requires
 fresh-task-requires c κs = search needs

@@ -2,8 +2,8 @@
 use borrow.Author.Needs.{needs}
 use mathlib.Core.Path.{refl}
 use Rattle.machine.specs.Calls.{addInterrupt}
-use Rattle.changes.proofs.declarations.add_interrupt.Statement.{statement}
-use Rattle.changes.proofs.declarations.add_interrupt.Tie as tie
+use Rattle.declaring.proofs.add_interrupt.Statement.{statement}
+use Rattle.declaring.proofs.add_interrupt.Tie as tie
 
 cast-next : tie.Need-cast-next
 cast-next c = search needs

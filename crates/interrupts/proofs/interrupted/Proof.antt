@@ -11,8 +11,8 @@ use Rattle.machine.specs.Calls.{interruptBy}
 use Rattle.machine.specs.Step.{finish}
 use Rattle.machine.proofs.Passed.{parts}
 use Rattle.serving.proofs.TurnCases.{sound}
-use Rattle.ticks.proofs.interrupted.Statement.{statement}
-use Rattle.ticks.proofs.interrupted.Tie as tie
+use Rattle.interrupts.proofs.interrupted.Statement.{statement}
+use Rattle.interrupts.proofs.interrupted.Tie as tie
 
 enabled-as-requires : tie.Need-enabled-as-requires
 enabled-as-requires c κs = let s = c .before .before .before in (sound day _ (s .pre .0) .waits, (parts day _ (s .pre .0) .places, s .pre .1))

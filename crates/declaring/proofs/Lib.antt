@@ -1,0 +1,2 @@
+-- The law that the proofs need.
+mod Presets
