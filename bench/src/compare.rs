@@ -1,19 +1,24 @@
-//! Random scripts through another program and through the kernel here.
+//! Random scripts through other programs and through the kernel here.
 
 use std::io::{self, Write};
+use std::path::Path;
 use std::process::{Command, Stdio};
 use std::thread;
 
-use crate::coverage::Coverage;
+use crate::expect::{expect, Expected, Reached};
 use crate::generate::{script, Kind, KINDS};
-use crate::kernel::Kernel;
 use crate::limits::RECORD;
-use crate::lines::{has_line, push_line};
 use crate::random::Random;
 use crate::trouble::{named, no_output};
 
-/// So many differences are told in full.
+/// So many scripts that fail are told in full.
 const TOLD: usize = 5;
+
+/// The programs that are compared with the kernel here.
+pub struct Programs<'a> {
+    pub rackrun: &'a str,
+    pub rackwait: &'a str,
+}
 
 pub struct Score {
     pub passed: usize,
@@ -28,43 +33,34 @@ struct Case {
     records: usize,
 }
 
-/// The lines of a script, each with the number of its record.
-struct Expected {
-    text: Vec<u8>,
-    records: Vec<usize>,
-}
-
-pub fn compare(program: &str, count: usize, seed: u64) -> io::Result<Score> {
-    let mut coverage = Coverage::default();
+/// Runs random scripts. Without programs only the bounds of waits are watched.
+pub fn compare(programs: Option<&Programs>, count: usize, seed: u64) -> io::Result<Score> {
+    let mut reached = Reached::default();
     let mut failed = 0;
     for case in cases(count, seed) {
         let bytes = script(case.kind, case.seed, case.records);
-        let expected = expect(&bytes, &mut coverage);
-        if let Some(difference) = difference(program, &bytes, &expected)? {
+        let expected = expect(&bytes, &mut reached);
+        let mut failures = match programs {
+            Some(programs) => programs.differences(&bytes, &expected)?,
+            None => Vec::new(),
+        };
+        failures.extend(expected.broken);
+        if !failures.is_empty() {
             failed += 1;
             if failed <= TOLD {
-                tell(&case, &difference).map_err(no_output)?;
+                tell(&case, &failures).map_err(no_output)?;
             }
         }
     }
     if failed > TOLD {
         let more = failed - TOLD;
-        writeln!(io::stdout(), "{more} more scripts differ").map_err(no_output)?;
+        writeln!(io::stdout(), "{more} more scripts fail").map_err(no_output)?;
     }
-    write!(io::stdout(), "{coverage}").map_err(no_output)?;
+    write!(io::stdout(), "{reached}").map_err(no_output)?;
     Ok(Score {
         passed: count - failed,
         failed,
     })
-}
-
-/// What the scripts reach, without another program.
-pub fn coverage(count: usize, seed: u64) -> io::Result<()> {
-    let mut coverage = Coverage::default();
-    for case in cases(count, seed) {
-        expect(&script(case.kind, case.seed, case.records), &mut coverage);
-    }
-    write!(io::stdout(), "{coverage}").map_err(no_output)
 }
 
 fn cases(count: usize, seed: u64) -> impl Iterator<Item = Case> {
@@ -77,27 +73,33 @@ fn cases(count: usize, seed: u64) -> impl Iterator<Item = Case> {
     })
 }
 
-fn expect(bytes: &[u8], coverage: &mut Coverage) -> Expected {
-    let mut kernel = Kernel::new();
-    let mut expected = Expected {
-        text: Vec::new(),
-        records: Vec::new(),
-    };
-    coverage.note_script();
-    for (i, record) in bytes.chunks(RECORD).enumerate() {
-        let before = kernel.clone();
-        let answer = kernel.step(record);
-        coverage.note(&before, record, &answer, &kernel);
-        if has_line(&kernel, &answer) {
-            push_line(&mut expected.text, &answer);
-            expected.records.push(i);
+impl Programs<'_> {
+    /// Where the programs write something else than expected.
+    fn differences(&self, bytes: &[u8], expected: &Expected) -> io::Result<Vec<String>> {
+        let mut found = Vec::new();
+        let record = |line: usize| match expected.records.get(line) {
+            Some(record) => format!("record {record}"),
+            None => "after the last line".to_string(),
+        };
+        found.extend(difference(self.rackrun, bytes, &expected.text, record)?);
+        for look in &expected.looks {
+            let records = look.length.div_ceil(RECORD);
+            let beginning = |_| format!("after {records} records");
+            let bytes = &bytes[..look.length];
+            found.extend(difference(self.rackwait, bytes, &look.text(), beginning)?);
         }
+        Ok(found)
     }
-    expected
 }
 
-/// None if the program writes just the lines expected.
-fn difference(program: &str, bytes: &[u8], expected: &Expected) -> io::Result<Option<String>> {
+/// None if the program writes just the text expected; `place` says where a line
+/// comes from.
+fn difference(
+    program: &str,
+    bytes: &[u8],
+    expected: &[u8],
+    place: impl Fn(usize) -> String,
+) -> io::Result<Option<String>> {
     let mut child = Command::new(program)
         .stdin(Stdio::piped())
         .stdout(Stdio::piped())
@@ -110,38 +112,41 @@ fn difference(program: &str, bytes: &[u8], expected: &Expected) -> io::Result<Op
         (writer.join().expect("the writer doesn't panic"), output)
     });
     let output = output.map_err(|error| named(program, "can't be read", error))?;
-    if output.stdout != expected.text {
-        return Ok(Some(first_difference(&output.stdout, expected)));
+    let name = Path::new(program).file_name().unwrap_or_default();
+    let name = name.to_string_lossy();
+    if output.stdout != expected {
+        let (line, lines) = first_difference(&output.stdout, expected);
+        return Ok(Some(format!(
+            "  {name}, {}, line {line}\n{lines}",
+            place(line)
+        )));
     }
     if !output.status.success() {
-        return Ok(Some(format!("  right lines, but {}", output.status)));
+        return Ok(Some(format!(
+            "  {name}: right lines, but {}",
+            output.status
+        )));
     }
     match written {
         Ok(()) => Ok(None),
-        Err(error) if error.kind() == io::ErrorKind::BrokenPipe => Ok(Some(
-            "  right lines, but it stopped reading before the end".to_string(),
-        )),
+        Err(error) if error.kind() == io::ErrorKind::BrokenPipe => Ok(Some(format!(
+            "  {name}: right lines, but it stopped reading before the end"
+        ))),
         Err(error) => Err(named(program, "can't be written to", error)),
     }
 }
 
-fn first_difference(found: &[u8], expected: &Expected) -> String {
-    let mut wanted = split_lines(&expected.text);
+/// The number of the first line that differs, and the line in both texts.
+fn first_difference(found: &[u8], expected: &[u8]) -> (usize, String) {
+    let mut wanted = split_lines(expected);
     let mut got = split_lines(found);
     let mut line = 0;
     loop {
         match (wanted.next(), got.next()) {
             (Some(a), Some(b)) if a == b => line += 1,
             (a, b) => {
-                let place = match expected.records.get(line) {
-                    Some(record) => format!("record {record}"),
-                    None => "after the last line".to_string(),
-                };
-                return format!(
-                    "  {place}, line {line}\n  expected: {}\n  program:  {}",
-                    shown(a),
-                    shown(b)
-                );
+                let lines = format!("  expected: {}\n  program:  {}", shown(a), shown(b));
+                return (line, lines);
             }
         }
     }
@@ -162,14 +167,14 @@ fn shown(line: Option<&[u8]>) -> String {
     }
 }
 
-fn tell(case: &Case, difference: &str) -> io::Result<()> {
+fn tell(case: &Case, failures: &[String]) -> io::Result<()> {
     writeln!(
         io::stdout(),
-        "script {} differs; make it with: generate {} {} {}\n{}",
+        "script {} fails; make it with: generate {} {} {}\n{}",
         case.number,
         case.kind.name(),
         case.seed,
         case.records,
-        difference
+        failures.join("\n")
     )
 }

@@ -1,4 +1,4 @@
-//! Long scripts to be timed, with all 32 tasks alive throughout.
+//! Long scripts to be compared and timed, with all 32 tasks alive throughout.
 
 use crate::draft::Draft;
 use crate::kernel::{Kernel, State, Task, Wait};
@@ -46,6 +46,19 @@ pub fn readers(records: usize) -> Vec<u8> {
     while script.left > 0 {
         let away = script.count_tasks(|t| !t.runnable());
         script.put(if away < MOST_AWAY { enter } else { leave });
+    }
+    script.bytes
+}
+
+/// A long pause, and then all tasks but one wait for one semaphore.
+pub fn queues(records: usize) -> Vec<u8> {
+    let mut script = Script::new(records);
+    script.living_tasks();
+    while script.left >= TASKS {
+        script.put(Draft::new(b"TI"));
+    }
+    while script.left > 0 {
+        script.put(Draft::new(b"RQ").list(&[0]));
     }
     script.bytes
 }

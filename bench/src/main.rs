@@ -7,6 +7,7 @@ mod continuation;
 mod coverage;
 mod draft;
 mod due;
+mod expect;
 mod generate;
 mod grant;
 mod heavy;
@@ -23,18 +24,23 @@ mod tests;
 mod timing;
 mod trouble;
 mod turns;
+mod waits;
+mod watch;
 
 use std::io::{self, Write};
 use std::process::ExitCode;
 
+use compare::{compare, Programs};
 use trouble::no_output;
 
 const USAGE: &str = "usage:
   bench reference                      records on standard input, lines on standard output
+  bench waits                          the same, with the lines of rackwait
   bench generate KIND SEED RECORDS     a random script: valid, damaged, contended,
-                                       idle, writers or turns
-  bench heavy KIND RECORDS             a long script: ticks, calls or readers
-  bench compare PROGRAM COUNT SEED     random scripts through PROGRAM and the reference
+                                       idle, writers, turns or queues
+  bench heavy KIND RECORDS             a long script: ticks, calls, readers or queues
+  bench compare RACKRUN RACKWAIT COUNT SEED
+                                       random scripts through both and the reference
   bench coverage COUNT SEED            what those scripts reach
   bench time PROGRAM SCRIPT ROUNDS     PROGRAM and the reference in turn on a script file";
 
@@ -70,6 +76,7 @@ fn main() -> ExitCode {
 fn run(words: &[&str]) -> Result<bool, Trouble> {
     match words {
         ["reference"] => lines::run(io::stdin().lock(), io::stdout().lock())?,
+        ["waits"] => waits::run(io::stdin().lock(), io::stdout().lock())?,
         ["generate", kind, seed, records] => {
             let kind = generate::Kind::from_name(kind).ok_or(Trouble::Usage)?;
             write_out(&generate::script(kind, number(seed)?, count(records)?))?;
@@ -80,16 +87,20 @@ fn run(words: &[&str]) -> Result<bool, Trouble> {
                 "ticks" => heavy::ticks(records),
                 "calls" => heavy::calls(records),
                 "readers" => heavy::readers(records),
+                "queues" => heavy::queues(records),
                 _ => return Err(Trouble::Usage),
             })?;
         }
-        ["compare", program, scripts, seed] => {
-            let score = compare::compare(program, count(scripts)?, number(seed)?)?;
+        ["compare", rackrun, rackwait, scripts, seed] => {
+            let programs = Programs { rackrun, rackwait };
+            let score = compare(Some(&programs), count(scripts)?, number(seed)?)?;
             let text = format!("{} passed, {} failed\n", score.passed, score.failed);
             write_out(text.as_bytes())?;
             return Ok(score.failed == 0);
         }
-        ["coverage", scripts, seed] => compare::coverage(count(scripts)?, number(seed)?)?,
+        ["coverage", scripts, seed] => {
+            return Ok(compare(None, count(scripts)?, number(seed)?)?.failed == 0);
+        }
         ["time", program, script, rounds] => timing::time(program, script, count(rounds)?.max(1))?,
         _ => return Err(Trouble::Usage),
     }

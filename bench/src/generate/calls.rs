@@ -114,6 +114,27 @@ const TURNS: &Weights = &[
     (b"TI", 18),
 ];
 
+const QUEUES: &Weights = &[
+    (b"AC", 16),
+    (b"TE", 2),
+    (b"SU", 4),
+    (b"PR", 1),
+    (b"CO", 6),
+    (b"EN", 2),
+    (b"RE", 2),
+    (b"RQ", 26),
+    (b"RL", 22),
+    (b"TR", 4),
+    (b"RS", 1),
+    (b"FR", 1),
+    (b"ET", 1),
+    (b"LV", 1),
+    (b"TG", 3),
+    (b"EI", 2),
+    (b"XI", 1),
+    (b"TI", 8),
+];
+
 impl Maker {
     pub fn call(&mut self) -> Draft {
         if self.random.once_in(15) {
@@ -137,6 +158,7 @@ impl Maker {
         match self.kind {
             Kind::Writers if self.random.percent(25) => self.call_about_rivals(),
             Kind::Turns if self.random.percent(40) => self.call_about_turns(),
+            Kind::Queues if self.random.percent(20) => self.call_about_queues(),
             _ => None,
         }
     }
@@ -148,6 +170,7 @@ impl Maker {
             Kind::Idle => IDLE,
             Kind::Writers => WRITERS,
             Kind::Turns => TURNS,
+            Kind::Queues => QUEUES,
         };
         let total = weights.iter().map(|(_, weight)| weight).sum();
         let mut left = self.random.below(total);
@@ -244,7 +267,7 @@ impl Maker {
 
     fn activation(&mut self) -> Option<Draft> {
         let plain = match self.kind {
-            Kind::Contended | Kind::Writers => 95,
+            Kind::Contended | Kind::Writers | Kind::Queues => 95,
             Kind::Idle => 20,
             Kind::Valid | Kind::Damaged | Kind::Turns => 50,
         };
@@ -346,7 +369,7 @@ impl Maker {
     /// Whether tasks share few bolts or semaphores and get in each other's way
     /// within a few ticks.
     fn is_dense(&self) -> bool {
-        matches!(self.kind, Kind::Writers | Kind::Turns)
+        matches!(self.kind, Kind::Writers | Kind::Turns | Kind::Queues)
     }
 
     /// Mostly so short that it runs out within the script.
@@ -381,7 +404,11 @@ impl Maker {
     /// What the runner asks for. The last runnable task asks only for what it can get.
     fn wish(&mut self, mark: &[u8; 2]) -> Option<Vec<u8>> {
         let runnable = self.kernel.declared_tasks().iter().filter(|t| t.runnable());
-        let modesty = if self.kind == Kind::Turns { 20 } else { 45 };
+        let modesty = match self.kind {
+            Kind::Turns => 20,
+            Kind::Queues => 5,
+            _ => 45,
+        };
         let modest = runnable.count() < 2 || self.random.percent(modesty);
         let choices = match mark {
             b"RQ" | b"TR" => self.semaphores(|value| !modest || value > 0),
@@ -389,7 +416,8 @@ impl Maker {
             _ => self.bolts(|_| true),
         };
         let mut list = self.some_of(choices)?;
-        if mark == b"TR" {
+        let short = self.kind == Kind::Queues && self.random.percent(60);
+        if mark == b"TR" || short {
             list.truncate(1);
         }
         Some(list)

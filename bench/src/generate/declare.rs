@@ -75,6 +75,9 @@ impl Maker {
             (Kind::Turns, b"DT") => self.random.between(6, 20),
             (Kind::Turns, b"DS") => self.random.between(1, 3),
             (Kind::Turns, b"DB" | b"IT") => self.random.between(1, 2),
+            (Kind::Queues, b"DT") => self.random.between(6, 24),
+            (Kind::Queues, b"DS") => self.random.between(1, 3),
+            (Kind::Queues, b"DB" | b"IT") => self.random.between(1, 2),
             (_, b"DT") => self.random.between(1, 20),
             (_, b"IT") => self.random.between(1, 4),
             _ => self.random.between(1, 8),
@@ -95,7 +98,7 @@ impl Maker {
 
     fn semaphore(&mut self) -> Draft {
         let preset = match self.random.below(10) {
-            1..=9 if self.kind == Kind::Turns => self.random.below(2),
+            1..=9 if matches!(self.kind, Kind::Turns | Kind::Queues) => self.random.below(2),
             0 => 65_535,
             1 => 65_534,
             2 if self.kind != Kind::Contended => self.random.below(65_536),

@@ -7,6 +7,7 @@ mod bolts;
 mod calls;
 mod damage;
 mod declare;
+mod queues;
 mod turns;
 
 use crate::draft::Draft;
@@ -30,15 +31,18 @@ pub enum Kind {
     /// Many equally urgent tasks that start anew, wait for the same, are held
     /// and go on, often several in one call.
     Turns,
+    /// Many tasks that wait for one of few semaphores, and few who release.
+    Queues,
 }
 
-pub const KINDS: [Kind; 6] = [
+pub const KINDS: [Kind; 7] = [
     Kind::Valid,
     Kind::Damaged,
     Kind::Contended,
     Kind::Idle,
     Kind::Writers,
     Kind::Turns,
+    Kind::Queues,
 ];
 
 impl Kind {
@@ -50,6 +54,7 @@ impl Kind {
             Kind::Idle => "idle",
             Kind::Writers => "writers",
             Kind::Turns => "turns",
+            Kind::Queues => "queues",
         }
     }
 

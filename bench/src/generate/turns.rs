@@ -88,7 +88,7 @@ impl Maker {
     }
 
     /// The runner asks for what another task waits for; not if nobody else can run.
-    fn wait_as_well(&mut self) -> Option<Draft> {
+    pub fn wait_as_well(&mut self) -> Option<Draft> {
         let runnable = self.kernel.declared_tasks().iter().filter(|t| t.runnable());
         if runnable.count() < 2 {
             return None;
@@ -103,7 +103,7 @@ impl Maker {
     }
 
     /// Holds a task that waits, or lets one that is held go on.
-    fn hold_or_continue(&mut self) -> Option<Draft> {
+    pub fn hold_or_continue(&mut self) -> Option<Draft> {
         let task = self.some_task(|t| t.waits() || t.held())?;
         if !self.kernel.tasks[usize::from(task)].held() {
             return Some(Draft::new(b"SU").on(task));
@@ -118,7 +118,7 @@ impl Maker {
 
     /// Leads to two tasks that wait for the same and are equally urgent, though
     /// they weren't when their waits began.
-    fn become_equal(&mut self) -> Option<Draft> {
+    pub fn become_equal(&mut self) -> Option<Draft> {
         let one = self.some_task(Task::waits)?;
         let Task {
             wait,

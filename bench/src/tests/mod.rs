@@ -7,6 +7,7 @@ mod readings;
 mod scripts;
 mod turns;
 mod unsound;
+mod waits;
 mod writers;
 
 use crate::draft::Draft;

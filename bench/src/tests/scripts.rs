@@ -205,6 +205,7 @@ fn long_scripts_are_accepted_whole_with_32_tasks_alive() {
         heavy::ticks(3000),
         heavy::calls(3000),
         heavy::readers(70_000),
+        heavy::queues(3000),
     ] {
         let mut kernel = Kernel::new();
         for record in bytes.chunks(RECORD) {

@@ -33,11 +33,11 @@ replied a u (inr p) =
     ∙ ap (λ (r : List ℕ). reply (step day (a .state) r)) (p .stands)
 
 module _ (a : Kernel) (u : Use) (p : Promised a u) where
-  next-state : u .reply .kernel .state ≡ step day (a .state) (u .bytes) .state
+  pub next-state : u .reply .kernel .state ≡ step day (a .state) (u .bytes) .state
   unfolding reply
   next-state = ap (λ (r : Reply). r .kernel .state) (replied a u p)
 
-  answered : u .reply .answer ≡ step day (a .state) (u .bytes) .answer
+  pub answered : u .reply .answer ≡ step day (a .state) (u .bytes) .answer
   unfolding reply
   answered = ap (λ (r : Reply). r .answer) (replied a u p)
 

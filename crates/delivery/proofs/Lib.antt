@@ -1,3 +1,4 @@
 pub mod Methods
 pub mod Delivered
+pub mod Waited
 pub mod Scripted

@@ -1,4 +1,5 @@
 -- The balance of what `Kernel::fresh`, `Kernel::step`, the methods and the script function hand back.
 pub mod Methods
 pub mod Delivered
+pub mod Waited
 pub mod Scripted

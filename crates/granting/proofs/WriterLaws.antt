@@ -98,7 +98,7 @@ pub tells-none : (ts : List Task) → Tells 0 ts noWriters
 unfolding unopposed allBelow
 tells-none ts q x b l = rw (getD-replicate {A = ℕ} mostLocks x 256 0 l, lt-ltb q 256 (omega arith))
 
-clipped : (n : ℕ) (l : List ℕ) → length l ≡ mostNumbers → take (min n mostNumbers) l ≡ take n l
+pub clipped : (n : ℕ) (l : List ℕ) → length l ≡ mostNumbers → take (min n mostNumbers) l ≡ take n l
 clipped n l e =
     byBool (leb n mostNumbers)
     (λ q. rw (min-eq-left (leb-true n mostNumbers q)))

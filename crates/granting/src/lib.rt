@@ -94,7 +94,7 @@ fn with_list(w: Writers, priority: u8, m: usize, list: Numbers) -> Writers
 }
 
 // The length of a list, but at most the numbers that there is room for.
-fn shorter(len: u8) -> usize
+pub fn shorter(len: u8) -> usize
     ensures { λ r. ⌜ r ≡ min len mostNumbers ⌝ }
 {
     if len < MOST_NUMBERS {

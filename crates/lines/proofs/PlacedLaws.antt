@@ -1,11 +1,11 @@
 -- Texts that are written one after the other are one text.
 use mathlib.Core.Path.{_≡_, refl, sym, ap, _∙_}
-use mathlib.Core.List.{List, [], _∷_, _++_, append-assoc}
+use mathlib.Core.List.{List, [], _∷_, _++_, append-nil, append-assoc}
 use Prim.Native.Nat.{ℕ, suc, _+_, _≤_, _<_}
-use native.Mathlib.Nat.{add-assoc}
+use native.Mathlib.Nat.{add-zero, add-assoc}
 use native.Mathlib.Numerals.{add-one}
 use native.Mathlib.Omega.{arith}
-use lib.ListN.{length, take, drop, set, length-append, length-set}
+use lib.ListN.{length, take, drop, set, length-append, length-set, take-append-drop}
 use lib.Seq.{length-take-le, set-split, take-at, take-set-le, drop-at, drop-append-add, drop-drop}
 use Rattle.lines.specs.Buffers.{placed, Wrote}
 
@@ -38,6 +38,11 @@ chained s at t u room =
     let back : drop (at + length t + length u) (p ++ d) ≡ drop (at + length t + length u) s =
     drop-past p d (at + length t) (length u) l ∙ drop-drop (length u) (at + length t) s in
     rw (front, back, length-append t u, add-assoc at (length t) (length u), append-assoc (take at s) t u)
+
+-- A writer that writes nothing.
+pub wrote-nothing : (s : List ℕ) (at : ℕ) → Wrote s at [] s at
+unfolding placed
+wrote-nothing s at = record { place = omega arith; buffer = rw (append-nil (take at s), add-zero at) (sym (take-append-drop at s)) }
 
 pub byte-wrote : (s : List ℕ) (at b : ℕ) → at < length s → Wrote s at (b ∷ []) (set s at b) (at + 1)
 byte-wrote s at b h = record { place = refl; buffer = stored s at b h }

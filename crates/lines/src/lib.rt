@@ -53,8 +53,8 @@ pub fn decimal_at(n: u32, out: &mut [u8], at: usize) -> usize
     digits_at(n, out, at)
 }
 
-// A byte has at most three digits.
-fn byte_at(n: u8, out: &mut [u8], at: usize) -> usize
+// The same for a byte, which has at most three digits.
+pub fn byte_at(n: u8, out: &mut [u8], at: usize) -> usize
     requires { ⌜ at + 10 ≤ length (now out) ⌝ }
     ensures { λ r. ⌜ Wrote (now (out .entry)) at (decimal n) (now (out .exit)) r ⌝ }
     ensures { λ r. ⌜ r ≤ at + 3 ⌝ }
@@ -78,8 +78,8 @@ fn running_at(running: Running, out: &mut [u8], at: usize) -> usize
     }
 }
 
-// A space and a set.
-fn set_at(n: u32, out: &mut [u8], at: usize) -> usize
+// A space and a number.
+pub fn spaced_at(n: u32, out: &mut [u8], at: usize) -> usize
     requires { ⌜ at + 11 ≤ length (now out) ⌝ }
     ensures { λ r. ⌜ Wrote (now (out .entry)) at (space ∷ decimal n) (now (out .exit)) r ⌝ }
     ensures { λ r. ⌜ r ≤ at + 11 ⌝ }
@@ -94,11 +94,11 @@ fn sets_at(s: Sets, out: &mut [u8], at: usize) -> usize
     ensures { λ r. ⌜ Wrote (now (out .entry)) at (setsText s) (now (out .exit)) r ⌝ }
     ensures { λ r. ⌜ r ≤ at + 56 ⌝ }
 {
-    let started = set_at(s.due, out, at);
-    let ended = set_at(s.started, out, started);
-    let lost = set_at(s.ended, out, ended);
-    let granted = set_at(s.lost, out, lost);
-    let feed = set_at(s.granted, out, granted);
+    let started = spaced_at(s.due, out, at);
+    let ended = spaced_at(s.started, out, started);
+    let lost = spaced_at(s.ended, out, ended);
+    let granted = spaced_at(s.lost, out, lost);
+    let feed = spaced_at(s.granted, out, granted);
     out[feed] = b'\n';
     feed + 1
 }

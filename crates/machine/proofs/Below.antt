@@ -105,3 +105,25 @@ pub sum-le : (n : ℕ) (f : ℕ → ℕ) → ((i : ℕ) → f i ≤ 1) → sumBe
 unfolding sumBelow
 sum-le zero f h = omega arith
 sum-le (suc n) f h = omega (arith, sum-le n f h, h n)
+
+-- What is 0 from n on adds nothing.
+pub sum-cut : (n m : ℕ) (f : ℕ → ℕ) → n ≤ m → ((i : ℕ) → n ≤ i → i < m → f i ≡ 0) → sumBelow m f ≡ sumBelow n f
+unfolding sumBelow
+sum-cut n zero f l h = let z : n ≡ 0 = omega arith in rw z
+sum-cut n (suc m) f l h =
+    byEq n (suc m) (λ q. rw q)
+    (λ q. omega (arith, sum-cut n m f (omega arith) (λ i a b. h i a (omega arith)), h m (omega arith) (omega arith)))
+
+-- Part by part no more,
+pub sum-mono : (n : ℕ) (f g : ℕ → ℕ) → ((i : ℕ) → i < n → f i ≤ g i) → sumBelow n f ≤ sumBelow n g
+unfolding sumBelow
+sum-mono zero f g h = omega arith
+sum-mono (suc n) f g h = omega (arith, sum-mono n f g (λ i l. h i (omega arith)), h n (omega arith))
+
+-- and one part less.
+pub sum-less : (n : ℕ) (f g : ℕ → ℕ) (j : ℕ) → j < n → f j < g j → ((i : ℕ) → i < n → f i ≤ g i) → sumBelow n f < sumBelow n g
+unfolding sumBelow
+sum-less zero f g j l e h = absurd (not-suc-le-zero l)
+sum-less (suc n) f g j l e h =
+    byEq j n (λ q. omega (arith, sum-mono n f g (λ i a. h i (omega arith)), rw q at e))
+    (λ q. omega (arith, sum-less n f g j (omega arith) e (λ i a. h i (omega arith)), h n (omega arith)))

@@ -357,7 +357,7 @@ runnable-comes : (i : ℕ) (k : State) (s : Stepped) → runnableIn k i ≡ fals
 unfolding event
 runnable-comes i k s a b = rw (b, a)
 
-waiting-comes : (i : ℕ) (k : State) (s : Stepped) → waitsIn k i ≡ false → waitsIn (s .state) i ≡ true → eventIn k s i ≡ true
+pub waiting-comes : (i : ℕ) (k : State) (s : Stepped) → waitsIn k i ≡ false → waitsIn (s .state) i ≡ true → eventIn k s i ≡ true
 unfolding event
 waiting-comes i k s a b = rw (waiter-rests (taskAt (s .state .tasks) i) b, b, a)
 

@@ -19,7 +19,7 @@ pub fn zeros(s: &[u8]) -> bool
 }
 
 // Whether a list names x.
-fn is_named(s: &[u8], x: u8) -> bool
+pub fn is_named(s: &[u8], x: u8) -> bool
     ensures { λ r. ⌜ r ≡ names (now (s .entry)) x ⌝ }
 {
     let mut i = 0;

@@ -1,5 +1,4 @@
 -- Laws of scripts.
-pub mod BufferLaws
 pub mod RecordLaws
 pub mod CarryLaws
 pub mod PrintLaws
@@ -8,3 +7,5 @@ pub mod Going
 pub mod AnswerLaws
 pub mod PromiseProofs
 pub mod WholeProofs
+-- One run over the rest of a script.
+pub mod TurnLaws

@@ -2,10 +2,12 @@
 use mathlib.Core.Path.{_≡_}
 use mathlib.Core.Bool.{Bool, true, false, cond}
 use mathlib.Core.List.{List, [], _∷_, _++_}
-use Prim.Native.Nat.{ℕ, _-_, _≤_}
+use Prim.Native.Nat.{ℕ, _+_, _-_, _≤_, _<_}
 use lib.ListN.{length, drop}
 use lib.Dec.{ltb}
+use Rattle.calendar.specs.Limits.{day}
 use Rattle.machine.specs.Step.{step}
+use Rattle.machine.specs.Log.{final}
 use Rattle.machine.specs.declared.State.{State}
 use Rattle.lines.specs.Lines.{longestLine}
 use Rattle.lines.specs.Buffers.{Wrote}
@@ -63,3 +65,12 @@ pub record Tells (c : Carried) (bytes before after : List ℕ) (r : Ran) : Type 
 -- The script over bytes, with the buffer as room.
 abbrev pub Runs : ℕ → Script → List ℕ → List ℕ → List ℕ → Ran → Type 0
 Runs day p bytes before after r = Tells (carried day p (records bytes) (length before)) bytes before after r
+
+-- One run over the bytes from at on: it gets on, its text lies within the buffer, and the machine's last kernel stays
+-- the same.
+pub record GetsOn (p : Script) (bytes : List ℕ) (at : ℕ) (before after : List ℕ) (r : Ran) : Type 0 where
+  pub runs : Runs day p (drop at bytes) before after r
+  pub further : 0 < r .read
+  pub within : at + r .read ≤ length bytes
+  pub text : r .written ≤ length after
+  pub last : final day (r .script .kernel .state) (records (drop (at + r .read) bytes)) ≡ final day (p .kernel .state) (records (drop at bytes))

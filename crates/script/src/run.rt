@@ -1,13 +1,13 @@
 // The script's loop: one record after the other, each with its line.
 ghost use mathlib.Core.Path.{_≡_};
-ghost use Prim.Native.Nat.{_+_, _≤_, min};
+ghost use Prim.Native.Nat.{_+_, _≤_, _<_, min};
 ghost use lib.ListN.{length};
 ghost use Rattle.calendar.specs.Limits.{day};
 ghost use Rattle.layout.specs.Fields.{recordLength};
 ghost use Rattle.lines.specs.Buffers.{Wrote};
 ghost use Rattle.lines.specs.Lines.{longestLine};
 ghost use Rattle.script.specs.Printed.{shown};
-ghost use Rattle.script.specs.Script.{Runs};
+ghost use Rattle.script.specs.Script.{Runs, GetsOn};
 use crate::Script;
 use crate::Stand;
 use calendar::Duration;
@@ -106,4 +106,13 @@ pub fn run(script: Script, bytes: &[u8], out: &mut [u8]) -> Ran
         written: fill,
         full: at < bytes.len(),
     }
+}
+
+// Carries on the records from at on, as far as there is room for their lines.
+pub fn run_from(script: Script, bytes: &[u8], at: usize, out: &mut [u8]) -> Ran
+    requires { ⌜ at < length (now bytes) ⌝ }
+    requires { ⌜ longestLine ≤ length (now out) ⌝ }
+    ensures { λ r. ⌜ GetsOn script (now (bytes .entry)) at (now (out .entry)) (now (out .exit)) r ⌝ }
+{
+    run(script, &bytes[at..], out)
 }

@@ -1,55 +1,53 @@
 -- Less than a record is held from one turn to the next.
 use borrow.Author.Needs.{needs}
+use borrow.Author.Tests.{not-false}
 use native.Mathlib.Omega.{arith}
 use mathlib.Core.Path.{_≡_, sym, _∙_}
-use Prim.Native.Nat.{ℕ, _+_, _-_, _≤_, _<_}
-use mathlib.Core.List.{List}
-use mathlib.Core.Logic.{⊎-elim}
-use native.Mathlib.Nat.{mod-lt}
-use lib.ListN.{length, drop, length-take}
+use Prim.Native.Nat.{_-_, _≤_, _<_}
+use lib.ListN.{length}
 use lib.Seq.{length-take-le}
-use borrow.Rule.Slice.PartMut.{putMid, same-len-mid}
+use Rattle.layout.specs.Fields.{recordLength}
+use Rattle.feed.proofs.WholeLaws.{whole-within, rest-short}
 use Rattle.rackrun.proofs.main.Statement.{statement}
 use Rattle.rackrun.proofs.main.Tie as tie
 
 abbrev Inv-loop : tie.InvT-loop
-Inv-loop input₀ output₀ script₀ held₀ turns₀ t11 input output script held turns = (65536 ≡ length input) × (65536 ≡ length output) × (held < 24)
+Inv-loop input₀ output₀ script₀ held₀ turns₀ t9 input output script held turns =
+    (65536 ≡ length input) × (65536 ≡ length output) × (held < recordLength)
 
 abbrev μ-loop : tie.MeasureT-loop
-μ-loop input₀ output₀ script₀ held₀ turns₀ t11 input output script held turns = turns
+μ-loop input₀ output₀ script₀ held₀ turns₀ t9 input output script held turns = turns
 
--- Where input was read into, and where it is known how much of it is whole records.
+-- Where input was read, and where what was read is carried out.
 abbrev R : Type 0
-R = tie.After-read Inv-loop μ-loop
+R = tie.After-read-on Inv-loop μ-loop
 
-abbrev J : Type 0
-J = tie.Joined2 Inv-loop μ-loop
+abbrev E : Type 0
+E = tie.Else1 Inv-loop μ-loop
 
-abbrev heldOf : R → ℕ
-heldOf c = c .before .before .before .loop .held
+-- Where the rest is to be kept.
+abbrev K : Type 0
+K = tie.After-input4 Inv-loop μ-loop
 
-abbrev inputOf : R → List ℕ
-inputOf c = putMid (heldOf c) (65536 - heldOf c) (c .before .before .before .loop .input) (c .read .last .1 .0)
+abbrev readOf : E → R
+readOf c = c .before .before .before
 
-abbrev readOf : J → R
-readOf c = c .before .before .before .before .before .before
+abbrev carriedOf : K → E
+carriedOf c = c .before .before .before .before .before .before .before .before .before .before
 
-abbrev totalOf : J → ℕ
-totalOf c = heldOf (readOf c) + c .before .count .result
+long : (c : R) → 65536 ≡ length (c .read-on .last .0)
+long c = c .before .before .before .loop .inv .0 ∙ sym (c .read-on .kept .0)
 
-long : (c : R) → 65536 ≡ length (inputOf c)
-long c = c .before .before .before .loop .inv .0 ∙ sym (same-len-mid (heldOf c) (65536 - heldOf c) (c .before .before .before .loop .input) (c .read .last .1 .0) (c .read .kept .1 .0))
+whole-in : (c : R) → c .read-on .result .whole ≤ c .read-on .result .total
+whole-in c = let r = c .read-on in whole-within (r .result .total) (r .result .more) (r .ensures .whole)
 
-total-fits : (c : J) → totalOf c ≤ 65536
-total-fits c =
-    let r = readOf c in
-    omega (arith, c .before .count .ensures .0 .0, length-take (65536 - heldOf r) (drop (heldOf r) (inputOf r)), r .before .before .before .loop .inv .2)
+fits : (c : R) → c .read-on .result .whole ≤ length (c .read-on .last .0)
+fits c = omega (arith, whole-in c, c .read-on .ensures .within)
 
-whole-in : (c : J) → c .if2 .whole ≤ totalOf c
-whole-in c = ⊎-elim (λ w. omega arith) (λ w. omega arith) (c .if2 .came)
-
-few : (c : J) → (c .before .count .result ≡ 0 → ⊥) → totalOf c - c .if2 .whole < 24
-few c h = ⊎-elim (λ w. absurd (h (w .0 .taken))) (λ w. omega (arith, mod-lt (totalOf c) {m = 24} (omega arith))) (c .if2 .came)
+few : (c : K) → let r = readOf (carriedOf c) .read-on .result in r .total - r .whole < recordLength
+few c =
+    let r = readOf (carriedOf c) .read-on in
+    rest-short (r .result .total) (r .result .more) (r .ensures .whole) (not-false (r .result .more) (c .before .before .if3 .left))
 
 large-buffer-requires : tie.Need-large-buffer-requires Inv-loop μ-loop
 large-buffer-requires c κs = search needs
@@ -69,17 +67,11 @@ loop-holds c = search needs
 sub-turns : tie.Need-sub-turns Inv-loop μ-loop
 sub-turns c = search needs
 
-sub-read : tie.Need-sub-read Inv-loop μ-loop
-sub-read c = search needs
+slice-aggregate-read-on : tie.Need-slice-aggregate-read-on Inv-loop μ-loop
+slice-aggregate-read-on c = search needs
 
-part-input-start : tie.Need-part-input-start Inv-loop μ-loop
-part-input-start c = search needs
-
-part-input-end : tie.Need-part-input-end Inv-loop μ-loop
-part-input-end c = search needs
-
-read-requires : tie.Need-read-requires Inv-loop μ-loop
-read-requires c κs = search needs
+read-on-requires : tie.Need-read-on-requires Inv-loop μ-loop
+read-on-requires c κs = search needs
 
 slice-aggregate-fail : tie.Need-slice-aggregate-fail Inv-loop μ-loop
 slice-aggregate-fail c = search needs
@@ -90,29 +82,11 @@ fail-requires c κs = search needs
 returns : tie.Need-returns Inv-loop μ-loop
 returns c = search needs
 
-sub-count : tie.Need-sub-count Inv-loop μ-loop
-sub-count c = search needs
-
-part-count-start : tie.Need-part-count-start Inv-loop μ-loop
-part-count-start c = search needs
-
-part-count-end : tie.Need-part-count-end Inv-loop μ-loop
-part-count-end c = omega (arith, long (c .before .before .before))
-
-count-requires : tie.Need-count-requires Inv-loop μ-loop
-count-requires c κs = search needs
-
-add-total : tie.Need-add-total Inv-loop μ-loop
-add-total c = search needs
-
-sub-whole : tie.Need-sub-whole Inv-loop μ-loop
-sub-whole c = search needs
-
 array-share-prefix-input : tie.Need-array-share-prefix-input Inv-loop μ-loop
-array-share-prefix-input c = omega (arith, whole-in c, total-fits c, long (readOf c))
+array-share-prefix-input c = fits (readOf c)
 
 slice-aggregate-carry : tie.Need-slice-aggregate-carry Inv-loop μ-loop
-slice-aggregate-carry c = let j = c .before in sym (length-take-le _ _ (omega (arith, whole-in j, total-fits j, long (readOf j))))
+slice-aggregate-carry c = sym (length-take-le _ _ (fits (readOf (c .before))))
 
 slice-aggregate-carry-2 : tie.Need-slice-aggregate-carry-2 Inv-loop μ-loop
 slice-aggregate-carry-2 c = search needs
@@ -127,22 +101,21 @@ returns-3 : tie.Need-returns-3 Inv-loop μ-loop
 returns-3 c = search needs
 
 slice-aggregate-keep : tie.Need-slice-aggregate-keep Inv-loop μ-loop
-slice-aggregate-keep c = let j = c .before .before .before .before .before .before .before .before .before in long (readOf j)
+slice-aggregate-keep c = long (readOf (carriedOf c))
 
 keep-requires : tie.Need-keep-requires Inv-loop μ-loop
-keep-requires c κs =
-    let j = c .before .before .before .before .before .before .before .before .before in
-    (whole-in j, omega (arith, total-fits j, long (readOf j)))
+keep-requires c κs = let r = readOf (carriedOf c) in (whole-in r, r .read-on .ensures .within)
 
 loop-less : tie.Need-loop-less Inv-loop μ-loop
 loop-less c = search needs
 
 loop-again : tie.Need-loop-again Inv-loop μ-loop
 loop-again c =
-    let d = c .before .before in
-    let j = d .before .before .before .before .before .before .before .before .before in
-    let y = d .before .before .before .before .before .before in
-    (long (readOf j) ∙ sym (c .before .keep .kept .0), readOf j .before .before .before .loop .inv .1 ∙ sym (y .carry .kept .1 .1 .0), omega (arith, few j (d .before .before .if4 .left), c .before .keep .ensures .0))
+    let k = c .before .before in
+    let e = carriedOf k in
+    let r = readOf e in
+    let y = k .before .before .before .before .before .before .before in
+    (long r ∙ sym (c .before .keep .kept .0), r .before .before .before .loop .inv .1 ∙ sym (y .carry .kept .1 .1 .0), omega (arith, few k, c .before .keep .ensures .0))
 
 returns-4 : tie.Need-returns-4 Inv-loop μ-loop
 returns-4 c = search needs
@@ -159,19 +132,11 @@ main-spec =
     begin-requires
     loop-holds
     sub-turns
-    sub-read
-    part-input-start
-    part-input-end
-    read-requires
+    slice-aggregate-read-on
+    read-on-requires
     slice-aggregate-fail
     fail-requires
     returns
-    sub-count
-    part-count-start
-    part-count-end
-    count-requires
-    add-total
-    sub-whole
     array-share-prefix-input
     slice-aggregate-carry
     slice-aggregate-carry-2

@@ -1,7 +1,7 @@
 -- By whether there is a line to print.
 use borrow.Author.Needs.{needs}
 use native.Mathlib.Omega.{arith}
-use Rattle.script.proofs.BufferLaws.{wrote-nothing}
+use Rattle.lines.proofs.PlacedLaws.{wrote-nothing}
 use Rattle.script.proofs.run.line_if.Statement.{statement}
 use Rattle.script.proofs.run.line_if.Tie as tie
 

@@ -1,0 +1,3 @@
+-- Laws that the proofs of the code share.
+pub mod QueueLaws
+pub mod TextLaws

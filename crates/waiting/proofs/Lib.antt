@@ -1,0 +1,10 @@
+pub mod Queued
+pub mod Shapes
+pub mod Works
+pub mod Served
+pub mod Waits
+pub mod Steps
+pub mod Bounded
+pub mod Meeting
+pub mod Needing
+pub mod Steady
