@@ -9,7 +9,7 @@ use Rattle.calendar.specs.Limits.{day}
 use Rattle.machine.specs.State.{nothing}
 use Rattle.machine.specs.Step.{step}
 use Rattle.machine.specs.Log.{final, log}
-use Rattle.machine.specs.Invariants.{IsDay}
+use Rattle.machine.proofs.Invariants.{is-day}
 use Rattle.machine.proofs.Joined.{step-is-carry}
 use Rattle.balance.specs.Balance.{AtEachRecord, Balanced, Parted}
 use Rattle.balance.proofs.Balanced.{balance}
@@ -19,9 +19,6 @@ use Rattle.kernel.specs.declared.Kernel.{Kernel}
 use Rattle.kernel.specs.declared.Reply.{Reply}
 use Rattle.delivery.specs.Delivered.{HandedFresh, Use, Promised, Handed, records, AnyRecords, answers, last, CodeIsMachine, AtEachUse, CodeBalanced, CodeBalances, Delivered, FreshDelivers}
 use Rattle.delivery.proofs.Methods.{method-carries}
-
-pub isDay : IsDay day
-isDay = record { some = omega arith; room = omega arith }
 
 -- ---- one use is the machine's step
 
@@ -88,7 +85,7 @@ as-balanced a us h b =
     }
 
 pub code-balances : CodeBalances
-code-balances a f us h o q = as-balanced a us h (balance day isDay (a .state) f (records us) o (rw (← as-log us a h) q))
+code-balances a f us h o q = as-balanced a us h (balance day is-day (a .state) f (records us) o (rw (← as-log us a h) q))
 
 -- ---- a list of uses parts as its records do
 
@@ -150,5 +147,5 @@ delivered a m us h p s =
 
 pub fresh-delivers : FreshDelivers
 fresh-delivers a m us h o =
-    let p = all-parted day isDay (records us) o in
+    let p = all-parted day is-day (records us) o in
     delivered a m us h p (split (p .declaring) (p .working) us a h (p .parts))

@@ -9,13 +9,13 @@ use Rattle.layout.specs.Fields.{recordLength, Octets}
 use Rattle.machine.specs.State.{nothing}
 use Rattle.machine.specs.Log.{AllOctets, final}
 use Rattle.machine.proofs.Rows.{final-append}
+use Rattle.machine.proofs.Invariants.{is-day}
 use Rattle.balance.proofs.Parted.{all-parted}
 use Rattle.script.specs.Records.{cut, records}
 use Rattle.script.specs.Script.{goingOn, Runs}
 use Rattle.script.proofs.Going.{octets-part}
 use Rattle.script.proofs.PromiseProofs.{scripts-carried}
 use Rattle.delivery.specs.Scripted.{ScriptBalances, RestBalances}
-use Rattle.delivery.proofs.Delivered.{isDay}
 
 octets-cut : (n : ℕ) (s : List ℕ) → Octets s → AllOctets (cut n s)
 unfolding cut AllOctets
@@ -48,7 +48,7 @@ rest-balances p past q m bytes before after r o u =
       split = c .split ∙ ap (λ (l : List (List ℕ)). c .done ++ l) (sym (t .rest));
       text = rw (c .text) at (t .text);
       script = t .script ∙ c .script ∙ ap goingOn (sym (final-append day nothing past (c .done)));
-      parted = all-parted day isDay (past ++ c .done) (octets-both past (c .done) q (octets-first (c .done) _ (rw (c .split) at (all-octets bytes o))));
+      parted = all-parted day is-day (past ++ c .done) (octets-both past (c .done) q (octets-first (c .done) _ (rw (c .split) at (all-octets bytes o))));
     }
 
 pub script-balances : ScriptBalances

@@ -1,25 +1,32 @@
 -- How many bytes are carried out, and how few stay.
 use mathlib.Core.Path.{_≡_}
-use mathlib.Core.Bool.{Bool, true, not}
+use mathlib.Core.Bool.{true, not}
+use mathlib.Core.List.{List}
 use Prim.Native.Nat.{ℕ, _+_, _-_, _≤_, _<_}
 use native.Mathlib.Nat.{mod-lt}
 use native.Mathlib.Omega.{arith}
 use lib.Dec.{ltb, eqb}
+use lib.ListN.{length}
 use borrow.Author.Tests.{lt-ltb, le-ltb, eq-eqb, ne-eqb}
 use Rattle.layout.specs.Fields.{recordLength}
 use Rattle.lock.proofs.Bools.{byBool, byEq}
-use Rattle.feed.specs.Feeding.{wholeOf}
+use Rattle.feed.specs.Feeding.{wholeOf, ReadOn}
+use Rattle.feed.specs.declared.Fed.{Fed}
 
--- Of n bytes so many are carried out.
-module _ (n : ℕ) {whole : ℕ} (more : Bool) (e : whole ≡ wholeOf n more) where
-  pub whole-within : whole ≤ n
+module _ {held : ℕ} {before after : List ℕ} (r : Fed) (h : ReadOn held before after r) where
+  -- What is carried out is no more than there is,
+  pub whole-within : r .whole ≤ r .total
   unfolding wholeOf
-  whole-within = byBool more (λ m. omega (arith, rw m at e)) (λ m. omega (arith, rw m at e))
+  whole-within = let e = h .whole in byBool (r .more) (λ m. omega (arith, rw m at e)) (λ m. omega (arith, rw m at e))
+
+  -- so it lies in the buffer.
+  pub whole-fits : r .whole ≤ length after
+  whole-fits = omega (arith, whole-within, h .within)
 
   -- Less than a record stays while more may come.
-  pub rest-short : more ≡ true → n - whole < recordLength
+  pub rest-short : r .more ≡ true → r .total - r .whole < recordLength
   unfolding wholeOf
-  rest-short m = omega (arith, rw m at e, mod-lt n {m = recordLength} (omega arith))
+  rest-short m = let e = h .whole in omega (arith, rw m at e, mod-lt (r .total) {m = recordLength} (omega arith))
 
 -- Something came where there is more than was held.
 pub came-more : (held n : ℕ) → not (eqb n 0) ≡ ltb held (held + n)

@@ -4,6 +4,7 @@ use mathlib.Core.Bool.{true}
 use mathlib.Core.List.{List}
 use Prim.Native.Nat.{ℕ, zero, suc, _≤_}
 use native.Mathlib.Omega.{arith}
+use Rattle.calendar.specs.Limits.{day}
 use Rattle.record.specs.Reading.{callWith, opened}
 use Rattle.layout.specs.Fields.{Octets}
 use Rattle.record.specs.declared.Read.{Read}
@@ -21,6 +22,10 @@ use Rattle.machine.proofs.Cases.{out-cases, declaration-cases, carried-
 use Rattle.machine.proofs.Done.{call-done}
 use Rattle.machine.proofs.Keeping.{did-ok, finish-ok}
 use Rattle.machine.proofs.Declaring.{task-added, semaphore-added, bolt-added, interrupt-added, clock-set}
+
+-- The day of the code is one.
+pub is-day : IsDay day
+is-day = record { some = omega arith; room = omega arith }
 
 -- A kernel that passes the test carries a call on.
 pub carry-on : (day : ℕ) (k : State) (c : Call) → valid day k ≡ true → carry day k c ≡ carryOn day k c

@@ -260,7 +260,7 @@ module _ (day : ℕ) (isDay : IsDay day) where
   told-all (r ∷ rs) o k p n m h =
       told-all rs (o .1) (step day k r .state) (step-passes day isDay k p r (o .0)) (suc n) (next k (step day k r) n m) (told-step k n m h day p r)
 
-  nothing-passes : Passes day nothing
+  pub nothing-passes : Passes day nothing
   unfolding nothing
   nothing-passes =
       passes-of-ok day nothing

@@ -4,7 +4,6 @@ use mathlib.Core.Bool.{Bool, true, _&&_}
 use mathlib.Core.List.{List, [], _∷_}
 use Prim.Native.Nat.{ℕ}
 use native.Mathlib.Nat.{not-suc-le-zero}
-use native.Mathlib.Omega.{arith}
 use lib.Dec.{ltb}
 use borrow.Author.Tests.{ltb-true}
 use Rattle.calendar.specs.Limits.{day}
@@ -12,10 +11,13 @@ use Rattle.lock.specs.Locks.{every}
 use Rattle.lock.proofs.Bools.{both}
 use Rattle.machine.specs.State.{nothing}
 use Rattle.machine.specs.Log.{AllOctets, final}
-use Rattle.machine.specs.Invariants.{IsDay, Passes}
+use Rattle.machine.specs.Invariants.{Passes}
 use Rattle.machine.specs.Scripts.{activate, terminate, request, release, CONTINUE_PRIO_}
 use Rattle.machine.specs.Sums.{sumBelow}
 use Rattle.machine.proofs.Computing.{computed}
+use Rattle.machine.proofs.Invariants.{is-day}
+use Rattle.machine.proofs.Unholding.{final-passes}
+use Rattle.machine.proofs.Taking.{nothing-passes}
 use Rattle.queue.specs.Queue.{ahead, boundOf}
 use Rattle.waiting.specs.Stages.{stagesFrom, howMany, upTo, while}
 use Rattle.waiting.specs.Needed.{one, two, pair, WorkedOut, aheadAlone, AllIsNeeded}
@@ -50,23 +52,9 @@ unfolding allBytes AllOctets
 all-octets [] e = tt
 all-octets (b ∷ bs) e = let p = both (every (λ x. ltb x 256) b) (allBytes bs) e in (octets-of b (p .0), all-octets bs (p .1))
 
-is-day : IsDay day
-is-day = record { some = omega arith; room = omega arith }
-
--- The kernels that the scripts leave pass the test.
-pub record Leave : Type 0 where
-  pub one : Passes day (final day nothing one)
-  pub two : Passes day (final day nothing two)
-  pub pair : Passes day (final day nothing pair)
-
-pub scripts-leave : Leave
-unfolding computed
-scripts-leave =
-    record {
-      one = record { tables = record { tasks = refl; places = refl; semaphores = refl; bolts = refl; enabled = refl }; tested = refl };
-      two = record { tables = record { tasks = refl; places = refl; semaphores = refl; bolts = refl; enabled = refl }; tested = refl };
-      pair = record { tables = record { tasks = refl; places = refl; semaphores = refl; bolts = refl; enabled = refl }; tested = refl };
-    }
+-- The kernel that a script leaves passes the test.
+left-passes : (past : List (List ℕ)) → allBytes past ≡ true → Passes day (final day nothing past)
+left-passes past e = final-passes day is-day nothing (nothing-passes day is-day) past (all-octets past e)
 
 -- Of each the count of the sentence is 0, one RELEASE is accepted, and the task isn't granted by it.
 pub all-is-needed : AllIsNeeded
@@ -75,15 +63,15 @@ all-is-needed =
     record {
       stands = wait-is-bounded;
       lives = λ f.
-          not-suc-le-zero (f day is-day (final day nothing one) (scripts-leave .one) (terminate 0 ∷ release (0 ∷ []) ∷ []) (all-octets _ refl) 0 0 (refl, refl)
+          not-suc-le-zero (f day is-day (final day nothing one) (left-passes one refl) (terminate 0 ∷ release (0 ∷ []) ∷ []) (all-octets _ refl) 0 0 (refl, refl)
           (refl, refl) (ltb-true 0 1 refl));
       priorities = λ f.
-          not-suc-le-zero (f day is-day (final day nothing two) (scripts-leave .two) ((CONTINUE 1 PRIO 3) ∷ release (0 ∷ []) ∷ []) (all-octets _ refl) 0 0 (refl, refl)
+          not-suc-le-zero (f day is-day (final day nothing two) (left-passes two refl) ((CONTINUE 1 PRIO 3) ∷ release (0 ∷ []) ∷ []) (all-octets _ refl) 0 0 (refl, refl)
           (refl, refl) (ltb-true 0 1 refl));
       newcomers = λ f.
-          not-suc-le-zero (f day is-day (final day nothing one) (scripts-leave .one) (activate 1 ∷ request (0 ∷ []) ∷ release (0 ∷ []) ∷ []) (all-octets _ refl) 0 0
+          not-suc-le-zero (f day is-day (final day nothing one) (left-passes one refl) (activate 1 ∷ request (0 ∷ []) ∷ release (0 ∷ []) ∷ []) (all-octets _ refl) 0 0
           (refl, refl) (refl, refl) (ltb-true 0 1 refl));
       lists = λ f.
-          not-suc-le-zero (f day is-day (final day nothing pair) (scripts-leave .pair) (release (0 ∷ []) ∷ []) (all-octets _ refl) 1 0 (refl, refl)
+          not-suc-le-zero (f day is-day (final day nothing pair) (left-passes pair refl) (release (0 ∷ []) ∷ []) (all-octets _ refl) 1 0 (refl, refl)
           (record { lives = refl; priorities = refl; newcomers = refl }) (ltb-true 0 1 refl));
     }

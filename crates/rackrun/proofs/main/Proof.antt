@@ -7,7 +7,7 @@ use Prim.Native.Nat.{_-_, _≤_, _<_}
 use lib.ListN.{length}
 use lib.Seq.{length-take-le}
 use Rattle.layout.specs.Fields.{recordLength}
-use Rattle.feed.proofs.WholeLaws.{whole-within, rest-short}
+use Rattle.feed.proofs.WholeLaws.{whole-within, whole-fits, rest-short}
 use Rattle.rackrun.proofs.main.Statement.{statement}
 use Rattle.rackrun.proofs.main.Tie as tie
 
@@ -39,15 +39,15 @@ long : (c : R) → 65536 ≡ length (c .read-on .last .0)
 long c = c .before .before .before .loop .inv .0 ∙ sym (c .read-on .kept .0)
 
 whole-in : (c : R) → c .read-on .result .whole ≤ c .read-on .result .total
-whole-in c = let r = c .read-on in whole-within (r .result .total) (r .result .more) (r .ensures .whole)
+whole-in c = whole-within (c .read-on .result) (c .read-on .ensures)
 
 fits : (c : R) → c .read-on .result .whole ≤ length (c .read-on .last .0)
-fits c = omega (arith, whole-in c, c .read-on .ensures .within)
+fits c = whole-fits (c .read-on .result) (c .read-on .ensures)
 
 few : (c : K) → let r = readOf (carriedOf c) .read-on .result in r .total - r .whole < recordLength
 few c =
     let r = readOf (carriedOf c) .read-on in
-    rest-short (r .result .total) (r .result .more) (r .ensures .whole) (not-false (r .result .more) (c .before .before .if3 .left))
+    rest-short (r .result) (r .ensures) (not-false (r .result .more) (c .before .before .if3 .left))
 
 large-buffer-requires : tie.Need-large-buffer-requires Inv-loop μ-loop
 large-buffer-requires c κs = search needs
