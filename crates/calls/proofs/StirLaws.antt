@@ -14,7 +14,7 @@ use Rattle.calendar.specs.declared.Instant.{Instant}
 use Rattle.calendar.proofs.Moments.{up-to-before}
 use Rattle.layout.specs.Fields.{bytesOf}
 use Rattle.lock.proofs.Bools.{byBool, contra, both}
-use Rattle.record.specs.Lists.{allZero}
+use Rattle.lists.specs.Lists.{allZero}
 use Rattle.machine.specs.NextEvent.{nextEvent}
 use Rattle.machine.specs.Scripts.{oneTick}
 use Rattle.machine.specs.State.{mostTasks, begunAt}

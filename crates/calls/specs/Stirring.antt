@@ -4,7 +4,7 @@ use mathlib.Core.List.{List}
 use Prim.Native.Nat.{ℕ}
 use lib.Dec.{eqb}
 use lib.ListN.{length, getD, drop}
-use Rattle.record.specs.Lists.{allZero}
+use Rattle.lists.specs.Lists.{allZero}
 
 -- The bytes of one tick: T, I and zeros.
 abbrev pub isTick : List ℕ → Bool

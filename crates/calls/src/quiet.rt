@@ -13,10 +13,10 @@ ghost use Rattle.machine.specs.Test.{valid};
 ghost use Rattle.calls.specs.Stirring.{isTick};
 use calendar::Duration;
 use layout::RECORD_LENGTH;
+use lists::zeros;
 use machine::Running;
 use machine::State;
 use machine::Stepped;
-use record::lists::zeros;
 use serving::ends::answered;
 use serving::ends::begun_at;
 

@@ -12,7 +12,7 @@ use Rattle.layout.specs.declared.Head.{Head}
 use Rattle.layout.specs.declared.Mark.{Mark}
 use Rattle.layout.specs.declared.Mark.the-variants.{TI}
 use Rattle.layout.proofs.MarksLaws.{is-mark}
-use Rattle.record.specs.Lists.{distinct}
+use Rattle.lists.specs.Lists.{distinct}
 use Rattle.record.specs.Reading.{callWith}
 use Rattle.record.specs.Refusals.{mostNumbers, named}
 use Rattle.record.specs.declared.Read.the-variants.{Refused, Accepted}

@@ -11,7 +11,7 @@ use lib.Dec.{leb, eqb}
 use lib.ListN.{length, getD, set, take, getD-replicate}
 use lib.Seq.{slice, slice-empty, getD-set-same, getD-set-other, take-all}
 use borrow.Author.Tests.{lt-ltb, le-ltb, leb-true, leb-false, eq-eqb, ne-eqb, not-true, not-false}
-use Rattle.record.specs.Lists.{names}
+use Rattle.lists.specs.Lists.{names}
 use Rattle.record.specs.Refusals.{mostNumbers}
 use Rattle.lock.specs.Locks.{mostLocks, sameKind, valueAt, boltAt, free}
 use Rattle.lock.specs.declared.Wait.{Wait}

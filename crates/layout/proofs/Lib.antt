@@ -1,3 +1,4 @@
--- Marks and fields, there and back.
+-- Tests that hold, and marks and fields, there and back.
+pub mod Tests
 pub mod MarksLaws
 pub mod FieldsLaws

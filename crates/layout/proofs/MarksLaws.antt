@@ -14,6 +14,7 @@ use Rattle.layout.specs.declared.Mark.{Mark}
 use Rattle.layout.specs.declared.Mark.the-variants.{DT, DS, DB, IT, DC, AC, TE, SU, PR, CO, EN, RE, RQ, RL, TR, RS, FR, ET, LV, TG, EI, XI, TI}
 use Rattle.layout.specs.declared.Marked.the-variants.{Unknown, Known}
 use Rattle.layout.specs.Marks.{code, is, marks, among, markOf}
+use Rattle.layout.proofs.Tests.{both}
 use Rattle.layout.proofs.Mark as MarkT
 
 -- Each mark is the only one with its letters, and stands at its place in the list.
@@ -57,10 +58,6 @@ is-mark m n e =
 unfoldable pub allMarks : (Mark → Bool) → List Mark → Bool
 allMarks f [] = true
 allMarks f (m ∷ ms) = f m && allMarks f ms
-
-both : (a b : Bool) → (a && b) ≡ true → (a ≡ true) × (b ≡ true)
-both true b e = (refl, e)
-both false b e = let x : _≡_ {A = ℕ} 0 1 = cc in absurd (omega arith)
 
 all-at : (f : Mark → Bool) (ms : List Mark) → allMarks f ms ≡ true → f DT ≡ true → (i : ℕ) → f (getD ms i DT) ≡ true
 unfolding allMarks

@@ -6,7 +6,7 @@ use Prim.Native.Nat.{ℕ, _≤_}
 use native.Mathlib.Decide.{ℕ-discrete}
 use native.Mathlib.Omega.{arith}
 use lib.Dec.{eqb}
-pub use Rattle.record.proofs.Tests.{contra, both}
+pub use Rattle.layout.proofs.Tests.{contra, both}
 use Rattle.lock.specs.Locks.{bit}
 
 -- What a constant part says of a test.

@@ -4,7 +4,7 @@ use mathlib.Core.Bool.{Bool, true, false, not}
 use mathlib.Core.List.{List, [], _∷_}
 use Prim.Native.Nat.{ℕ}
 use borrow.Author.Tests.{ne-eqb, not-true}
-use Rattle.record.specs.Lists.{names, distinct}
+use Rattle.lists.specs.Lists.{names, distinct}
 use Rattle.lock.specs.declared.Locks.{Locks}
 use Rattle.lock.specs.Locks.{moveOne, every, forEach}
 use Rattle.lock.specs.Promises.{EveryIsEach, SameAt, Each, ListIsEach}

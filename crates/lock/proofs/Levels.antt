@@ -9,7 +9,7 @@ use lib.Dec.{ltb, eqb}
 use lib.ListN.{length, length-set}
 use lib.Seq.{getD-set-same, getD-set-other}
 use borrow.Author.Tests.{ltb-true, eq-eqb, ne-eqb, not-true}
-use Rattle.record.specs.Lists.{distinct}
+use Rattle.lists.specs.Lists.{distinct}
 use Rattle.record.specs.Refusals.{mostValue}
 use Rattle.lock.specs.declared.Way.{Way}
 use Rattle.lock.specs.declared.Way.the-variants.{Take, Give}

@@ -7,7 +7,7 @@ use Prim.Native.Nat.{ℕ, _+_, _<_, _≤_}
 use native.Mathlib.Omega.{arith}
 use lib.Dec.{ltb, eqb}
 use borrow.Author.Tests.{ltb-true, lt-ltb, eq-eqb, ne-eqb, not-true}
-use Rattle.record.specs.Lists.{names, distinct}
+use Rattle.lists.specs.Lists.{names, distinct}
 use Rattle.lock.specs.Locks.{bit, every}
 use Rattle.lock.proofs.Bools.{byEq, contra, both, and-both}
 

@@ -11,7 +11,7 @@ use lib.Dec.{ltb}
 use lib.ListN.{length, getD, take, drop}
 use lib.Seq.{slice, slice-cons, slice-empty}
 use borrow.Author.Tests.{ltb-true, not-true, not-false}
-use Rattle.record.specs.Lists.{distinct}
+use Rattle.lists.specs.Lists.{distinct}
 use Rattle.lock.specs.declared.Locks.{Locks}
 use Rattle.lock.specs.Locks.{mostLocks, every, forEach}
 use Rattle.lock.proofs.Lists.{distinct-parts, every-parts, every-same}

@@ -6,7 +6,7 @@ use Prim.Native.Nat.{ℕ, _≤_, _<_}
 use native.Mathlib.Omega.{arith}
 use lib.Dec.{ltb}
 use borrow.Author.Tests.{ltb-true}
-use Rattle.record.specs.Lists.{names}
+use Rattle.lists.specs.Lists.{names}
 use Rattle.record.specs.Refusals.{mostValue}
 use Rattle.lock.specs.declared.Way.{Way}
 use Rattle.lock.specs.declared.Wait.{Wait}

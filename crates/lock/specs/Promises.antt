@@ -4,7 +4,7 @@ use mathlib.Core.Logic.{_↔_}
 use mathlib.Core.Bool.{Bool, true, false}
 use mathlib.Core.List.{List}
 use Prim.Native.Nat.{ℕ}
-use Rattle.record.specs.Lists.{names, distinct}
+use Rattle.lists.specs.Lists.{names, distinct}
 use Rattle.lock.specs.declared.Wait.{Wait}
 use Rattle.lock.specs.declared.Way.{Way}
 use Rattle.lock.specs.declared.Locks.{Locks}

@@ -4,7 +4,7 @@ ghost use mathlib.Core.Bool.{true};
 ghost use Prim.Native.Nat.{ℕ, _<_, _≤_};
 ghost use lib.ListN.{take};
 ghost use lib.Dec.{ltb};
-ghost use Rattle.record.specs.Lists.{distinct};
+ghost use Rattle.lists.specs.Lists.{distinct};
 ghost use Rattle.lock.specs.Locks.{mostLocks, waiting, valueAt, boltAt, canMove, moveOne, every, canMoveAll, moveAll};
 use layout::Numbers;
 

@@ -5,7 +5,7 @@ use Rattle.calendar.specs.Times.{timeOfDay, until}
 use Rattle.calendar.specs.Dues.{firstDue, lastAllowed, allowed, nextDue}
 use Rattle.layout.specs.Marks.{among}
 use Rattle.layout.specs.Fields.{headOf, listOf, bytesOf}
-use Rattle.record.specs.Lists.{allZero, names, distinct}
+use Rattle.lists.specs.Lists.{allZero, names, distinct}
 use Rattle.record.specs.Refusals.{uses, cleanNames, cleanStart, ranged, formed, listed, endTimed, firstTimed, startTimed, resumeTimed, timed, shape, times}
 use Rattle.record.specs.Reading.{opened}
 use Rattle.lock.specs.Locks.{level, canMove, moveOne, every, forEach}

@@ -8,7 +8,7 @@ use lib.Dec.{ltb, leb}
 use lib.ListN.{length}
 use borrow.Author.Tests.{leb-true, le-leb, ltb-true, lt-ltb, not-true}
 use Rattle.calendar.specs.Limits.{lastInstant}
-use Rattle.record.specs.Lists.{distinct}
+use Rattle.lists.specs.Lists.{distinct}
 use Rattle.record.specs.Refusals.{mostValue, mostNumbers}
 use Rattle.lock.specs.Locks.{waiting, every, valueAt, boltAt, level}
 use Rattle.lock.specs.declared.Wait.{Wait}

@@ -7,7 +7,7 @@ use native.Mathlib.Omega.{arith}
 use lib.Dec.{ltb}
 use lib.ListN.{length}
 use borrow.Author.Tests.{ltb-true}
-use Rattle.record.specs.Lists.{names}
+use Rattle.lists.specs.Lists.{names}
 use Rattle.lock.specs.declared.Way.the-variants.{Take}
 use Rattle.lock.specs.Locks.{waiting, every}
 use Rattle.lock.proofs.Bools.{byBool, byEq, contra, both}

@@ -12,7 +12,7 @@ use Rattle.layout.specs.declared.Mark.{Mark}
 use Rattle.layout.specs.declared.Mark.the-variants.{DT, DS, DB, IT, AC, TE, SU, TI}
 use Rattle.layout.specs.declared.Call.{Call}
 use Rattle.record.specs.Refusals.{mostValue, mostNumbers, formedAs, formed, named, listed, timed, unless, before, shape, times}
-use Rattle.record.specs.Lists.{distinct}
+use Rattle.lists.specs.Lists.{distinct}
 use Rattle.lock.specs.Locks.{mostLocks, waiting, every, taken, valueAt, boltAt}
 use Rattle.lock.specs.declared.Locks.{Locks}
 use Rattle.lock.specs.declared.Wait.{Wait}

@@ -14,7 +14,7 @@ use Rattle.layout.specs.Marks.{among}
 use Rattle.layout.specs.Fields.{callOf, headOf, listOf, bytesOf}
 use Rattle.layout.specs.declared.Call.{Call}
 use Rattle.layout.specs.declared.Mark.the-variants.{TI}
-use Rattle.record.specs.Lists.{allZero}
+use Rattle.lists.specs.Lists.{allZero}
 use Rattle.record.specs.Refusals.{uses, cleanNames, cleanStart, ranged, formed, listed, timed, shape, times}
 use Rattle.record.specs.Reading.{opened}
 use Rattle.task.specs.Turns.{unmarked, tickTurn}

@@ -8,7 +8,7 @@ use native.Mathlib.Nat.{not-suc-le-zero}
 use native.Mathlib.Omega.{arith}
 use lib.Dec.{ltb, eqb}
 use borrow.Author.Tests.{ltb-true, ltb-false, lt-ltb}
-use Rattle.record.specs.Lists.{names}
+use Rattle.lists.specs.Lists.{names}
 use Rattle.lock.specs.Locks.{every}
 use Rattle.lock.proofs.Bools.{byBool, byEq, contra, both, and-both}
 use Rattle.lock.proofs.Lists.{names-head, names-same, every-at, every-then}

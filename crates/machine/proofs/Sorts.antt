@@ -13,7 +13,7 @@ use Rattle.layout.specs.declared.Head.{Head}
 use Rattle.layout.specs.declared.Form.{Form}
 use Rattle.layout.specs.declared.Form.the-variants.{Bare, Number, Continuation, DeclaredPriority, Preset, TimeOfDay, Resumption, Activation, Numbers, OneNumber}
 use Rattle.layout.proofs.MarksLaws.{is-mark, allMarks, every-mark}
-use Rattle.record.specs.Lists.{allZero, names, distinct}
+use Rattle.lists.specs.Lists.{allZero, names, distinct}
 use Rattle.record.specs.Refusals.{mostNumbers, uses, orZero, cleanNames, cleanStart, ranged, formedAs, named, listed}
 use Rattle.layout.specs.declared.Mark.the-variants.{AC, TE, SU, PR, CO, TI}
 use Rattle.lock.specs.Locks.{waiting}

@@ -3,7 +3,7 @@ use mathlib.Core.Bool.{Bool, not, _&&_, _||_}
 use mathlib.Core.List.{List}
 use Prim.Native.Nat.{ℕ}
 use lib.Dec.{leb}
-use Rattle.record.specs.Lists.{names}
+use Rattle.lists.specs.Lists.{names}
 use Rattle.lock.specs.Locks.{waiting, sameKind, free, every}
 use Rattle.lock.specs.declared.Wait.{Wait}
 use Rattle.lock.specs.declared.Wait.the-variants.{Reserve, Enter}

@@ -9,7 +9,7 @@ use Rattle.calendar.specs.declared.End.{End}
 use Rattle.calendar.specs.declared.End.the-variants.{Open, Until, During}
 use Rattle.calendar.specs.declared.Moment.{Moment}
 use Rattle.calendar.specs.declared.Moment.the-variants.{Never, At}
-use Rattle.record.specs.Lists.{distinct}
+use Rattle.lists.specs.Lists.{distinct}
 use Rattle.record.specs.Refusals.{mostValue, mostNumbers}
 use Rattle.lock.specs.Locks.{waiting, every, valueAt, boltAt}
 use Rattle.schedule.specs.Alarms.{planned, pending, listening}

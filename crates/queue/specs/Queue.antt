@@ -3,7 +3,7 @@ use mathlib.Core.Bool.{Bool, cond, _&&_}
 use Prim.Native.Nat.{ℕ, suc}
 use lib.Dec.{ltb, eqb}
 use lib.ListN.{getD}
-use Rattle.record.specs.Lists.{names}
+use Rattle.lists.specs.Lists.{names}
 use Rattle.lock.specs.Locks.{bit, sameKind}
 use Rattle.lock.specs.declared.Wait.the-variants.{Request}
 use Rattle.task.specs.State.{wanted}

@@ -18,10 +18,10 @@ use Rattle.layout.specs.declared.Form.{Form}
 use Rattle.layout.specs.declared.Form.the-variants.{Bare, Number, Continuation, DeclaredPriority, Preset, TimeOfDay, Resumption, Activation, Numbers, OneNumber}
 use Rattle.layout.specs.Marks.{form}
 use Rattle.layout.specs.Fields.{recordLength, byte, word, headOf, listOf, callOf}
-use Rattle.record.specs.Lists.{allZero, stretch}
+use Rattle.lists.specs.Lists.{allZero, stretch}
 use Rattle.record.specs.Reading.{callWith}
 use Rattle.record.specs.Refusals.{mostNumbers, lastPlainKind, Used, plain, start, going, startFormed, goingFormed, orZero, cleanNames, cleanStart, ranged, uses, formedAs, formed, listed}
-use Rattle.record.proofs.Tests.{both}
+use Rattle.layout.proofs.Tests.{both}
 use Rattle.layout.proofs.Form as FormT
 
 -- Two tests are one if each gives the other.

@@ -11,7 +11,7 @@ use Rattle.layout.specs.declared.Mark.{Mark}
 use Rattle.layout.specs.declared.Call.{Call}
 use Rattle.layout.specs.Marks.{form}
 use Rattle.layout.specs.Fields.{recordLength, headOf, callOf, bytesOf}
-use Rattle.record.specs.Lists.{names}
+use Rattle.lists.specs.Lists.{names}
 use Rattle.record.specs.Refusals.{formed, listed, timed, unless, before, shape, times, refusal}
 use Rattle.record.specs.Reading.{numberOf, refused, accepted, callWith, opened, orRefused, judged, reading}
 use Rattle.record.specs.Writing.{orZeros, written}

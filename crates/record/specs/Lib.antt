@@ -1,5 +1,4 @@
 -- The record form's rules, in the order to read them.
-pub mod Lists
 pub mod Refusals
 pub mod Reading
 pub mod Writing

@@ -11,7 +11,7 @@ use Rattle.layout.specs.declared.Call.{Call}
 use Rattle.record.specs.declared.Read.the-variants.{Accepted}
 use Rattle.layout.specs.Marks.{code}
 use Rattle.layout.specs.Fields.{recordLength, letters, callOf, bytesOf, FourPlaces, Octets}
-use Rattle.record.specs.Lists.{names}
+use Rattle.lists.specs.Lists.{names}
 use Rattle.record.specs.Refusals.{refusal}
 use Rattle.record.specs.Reading.{numberOf, accepted, callWith, reading}
 use Rattle.record.specs.Writing.{written}

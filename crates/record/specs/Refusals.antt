@@ -11,7 +11,7 @@ use Rattle.layout.specs.declared.Call.{Call}
 use Rattle.layout.specs.declared.Form.{Form}
 use Rattle.layout.specs.declared.Form.the-variants.{Bare, Number, Continuation, DeclaredPriority, Preset, TimeOfDay, Resumption, Activation, Numbers, OneNumber}
 use Rattle.layout.specs.Marks.{form}
-use Rattle.record.specs.Lists.{allZero, distinct}
+use Rattle.lists.specs.Lists.{allZero, distinct}
 
 -- The largest value of a semaphore, and so of a preset.
 abbrev pub mostValue : ℕ

@@ -1,6 +1,5 @@
 // Records of 24 bytes to calls and declarations, and back. Knows no kernel.
 pub mod kinds;
-pub mod lists;
 pub mod reader;
 pub mod shape;
 pub mod times;

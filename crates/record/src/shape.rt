@@ -6,7 +6,7 @@ ghost use Prim.Native.Nat.{_≤_};
 ghost use lib.Dec.{leb};
 ghost use lib.ListN.{length, drop};
 ghost use Rattle.layout.specs.Fields.{recordLength, headOf, listOf};
-ghost use Rattle.record.specs.Lists.{allZero, stretch};
+ghost use Rattle.lists.specs.Lists.{allZero, stretch};
 ghost use Rattle.record.specs.Refusals.{mostNumbers, orZero, startFormed, goingFormed, formed, listed, shape};
 ghost use Rattle.layout.specs.Marks.{form};
 ghost use Rattle.record.specs.Reading.{callWith};
@@ -17,13 +17,13 @@ use crate::MOST_NUMBERS;
 use crate::MOST_VALUE;
 use crate::kinds::has_first;
 use crate::kinds::is_on_interrupt;
-use crate::lists::is_distinct;
-use crate::lists::zeros;
 use layout::Form;
 use layout::Head;
 use layout::Numbers;
 use layout::RECORD_LENGTH;
 use layout::marks::form_of;
+use lists::is_distinct;
+use lists::zeros;
 
 // Whether the bytes behind the mark are zero, but for those from a up to b.
 fn zero_around(s: &[u8], a: usize, b: usize) -> bool

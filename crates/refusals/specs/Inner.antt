@@ -8,7 +8,7 @@ use Rattle.layout.specs.declared.Call.{Call}
 use Rattle.layout.specs.declared.Head.{Head}
 use Rattle.layout.specs.declared.Mark.{Mark}
 use Rattle.layout.specs.declared.Mark.the-variants.{AC, TE, SU}
-use Rattle.record.specs.Lists.{distinct}
+use Rattle.lists.specs.Lists.{distinct}
 use Rattle.record.specs.Refusals.{mostNumbers, named, unless}
 use Rattle.lock.specs.Locks.{mostLocks, every}
 use Rattle.task.specs.State.{unheld, suspended}

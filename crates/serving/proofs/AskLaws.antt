@@ -5,7 +5,7 @@ use Prim.Native.Nat.{ℕ, _≤_, _<_}
 use native.Mathlib.Omega.{arith}
 use lib.Dec.{ltb}
 use borrow.Author.Tests.{le-leb}
-use Rattle.record.specs.Lists.{distinct}
+use Rattle.lists.specs.Lists.{distinct}
 use Rattle.record.specs.Refusals.{mostNumbers, named}
 use Rattle.layout.specs.declared.Call.{Call}
 use Rattle.lock.specs.Locks.{mostLocks, waiting, every}

@@ -11,7 +11,7 @@ use lib.ListN.{length, getD, take}
 use lib.Seq.{slice, slice-empty}
 use borrow.Author.Tests.{leb-true, not-true, not-false}
 use Rattle.calendar.specs.Limits.{lastInstant, isTimeOfDay}
-use Rattle.record.specs.Lists.{distinct}
+use Rattle.lists.specs.Lists.{distinct}
 use Rattle.record.specs.Refusals.{mostNumbers}
 use Rattle.lock.specs.Locks.{mostLocks, waiting, every}
 use Rattle.lock.specs.declared.Locks.{Locks}

@@ -12,7 +12,7 @@ use Rattle.layout.specs.Fields.{Octets, headOf, listOf, bytesOf}
 use Rattle.layout.specs.Marks.{among}
 use Rattle.layout.specs.declared.Call.{Call}
 use Rattle.layout.specs.declared.Mark.the-variants.{RL}
-use Rattle.record.specs.Lists.{names, distinct, allZero}
+use Rattle.lists.specs.Lists.{names, distinct, allZero}
 use Rattle.record.specs.Refusals.{mostValue, uses, cleanNames, cleanStart, ranged, formed, listed, timed, shape, times}
 use Rattle.record.specs.Reading.{accepted, opened}
 use Rattle.lock.specs.Locks.{bit, waiting, valueAt, canMove, moveOne, every, forEach, takeAll, giveAll}

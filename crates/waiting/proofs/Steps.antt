@@ -11,7 +11,7 @@ use Rattle.layout.specs.Fields.{Octets}
 use Rattle.layout.specs.Marks.{is}
 use Rattle.layout.specs.declared.Mark.the-variants.{RL}
 use Rattle.layout.proofs.MarksLaws.{is-mark}
-use Rattle.record.specs.Lists.{names}
+use Rattle.lists.specs.Lists.{names}
 use Rattle.record.specs.Refusals.{named}
 use Rattle.record.specs.Reading.{opened}
 use Rattle.lock.specs.Locks.{bit, waiting, giveAll}

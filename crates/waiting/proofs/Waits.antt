@@ -14,7 +14,7 @@ use Rattle.layout.specs.declared.Call.{Call}
 use Rattle.layout.specs.declared.Mark.{Mark}
 use Rattle.layout.specs.declared.Mark.the-variants.{RQ}
 use Rattle.layout.proofs.MarksLaws.{allMarks, every-mark}
-use Rattle.record.specs.Lists.{names}
+use Rattle.lists.specs.Lists.{names}
 use Rattle.record.specs.Reading.{accepted, opened}
 use Rattle.lock.specs.Locks.{waiting, sameKind}
 use Rattle.lock.specs.declared.Wait.the-variants.{Request}

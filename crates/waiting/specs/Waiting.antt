@@ -9,7 +9,7 @@ use Rattle.layout.specs.Fields.{Octets}
 use Rattle.layout.specs.Marks.{is}
 use Rattle.layout.specs.declared.Mark.{Mark}
 use Rattle.layout.specs.declared.Mark.the-variants.{RQ, RL}
-use Rattle.record.specs.Lists.{names}
+use Rattle.lists.specs.Lists.{names}
 use Rattle.record.specs.Refusals.{named, mostValue}
 use Rattle.record.specs.Reading.{callWith, opened}
 use Rattle.record.specs.declared.Read.{Read}

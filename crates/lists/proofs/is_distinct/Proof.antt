@@ -3,8 +3,8 @@ use borrow.Author.Needs.{needs}
 use mathlib.Core.Path.{sym}
 use native.Mathlib.Omega.{arith}
 use lib.Seq.{length-take-le}
-use Rattle.record.proofs.lists.is_distinct.Statement.{statement}
-use Rattle.record.proofs.lists.is_distinct.Tie as tie
+use Rattle.lists.proofs.is_distinct.Statement.{statement}
+use Rattle.lists.proofs.is_distinct.Tie as tie
 
 slice-aggregate-has-no-repeat : tie.Need-slice-aggregate-has-no-repeat
 slice-aggregate-has-no-repeat c = sym (length-take-le _ _ (omega arith))

@@ -8,7 +8,7 @@ use borrow.Author.Tests.{eq-eqb, ne-eqb}
 use lib.Dec.{eqb}
 use lib.ListN.{length, drop, getD, drop-of-length-le}
 use lib.Seq.{drop-cons}
-use Rattle.record.specs.Lists.{allZero, names, distinct}
+use Rattle.lists.specs.Lists.{allZero, names, distinct}
 
 module _ (s : List ℕ) (i : ℕ) (inside : i < length s) where
   pub zero-more : (ok : Bool) → (ok && allZero (drop i s)) ≡ ((ok && eqb (getD s i 0) 0) && allZero (drop (i + 1) s))

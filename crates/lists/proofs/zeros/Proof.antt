@@ -4,10 +4,10 @@ use mathlib.Core.Path.{_≡_, refl, sym, ap, _∙_}
 use mathlib.Core.Bool.{_&&_, and-true}
 use Prim.Native.Nat.{_-_}
 use lib.ListN.{length, drop}
-use Rattle.record.specs.Lists.{allZero}
-use Rattle.record.proofs.ListsLaws.{zero-more, zero-end}
-use Rattle.record.proofs.lists.zeros.Statement.{statement}
-use Rattle.record.proofs.lists.zeros.Tie as tie
+use Rattle.lists.specs.Lists.{allZero}
+use Rattle.lists.proofs.ListsLaws.{zero-more, zero-end}
+use Rattle.lists.proofs.zeros.Statement.{statement}
+use Rattle.lists.proofs.zeros.Tie as tie
 
 abbrev Inv-loop : tie.InvT-loop
 Inv-loop s ok₀ i₀ ok i = allZero s ≡ (ok && allZero (drop i s))

@@ -3,10 +3,10 @@ use borrow.Author.Needs.{needs}
 use mathlib.Core.Path.{_≡_, refl, sym, _∙_}
 use Prim.Native.Nat.{_-_}
 use lib.ListN.{length, drop}
-use Rattle.record.specs.Lists.{names}
-use Rattle.record.proofs.ListsLaws.{named-stop, named-go, named-end}
-use Rattle.record.proofs.lists.is_named.Statement.{statement}
-use Rattle.record.proofs.lists.is_named.Tie as tie
+use Rattle.lists.specs.Lists.{names}
+use Rattle.lists.proofs.ListsLaws.{named-stop, named-go, named-end}
+use Rattle.lists.proofs.is_named.Statement.{statement}
+use Rattle.lists.proofs.is_named.Tie as tie
 
 abbrev Inv-loop : tie.InvT-loop
 Inv-loop s x i₀ i = names s x ≡ names (drop i s) x

@@ -4,10 +4,10 @@ use mathlib.Core.Path.{_≡_, refl, sym, _∙_}
 use Prim.Native.Nat.{_-_}
 use borrow.Rule.Slice.PartAt.{part-to-end}
 use lib.ListN.{length, drop}
-use Rattle.record.specs.Lists.{distinct}
-use Rattle.record.proofs.ListsLaws.{distinct-stop, distinct-go, distinct-end}
-use Rattle.record.proofs.lists.has_no_repeat.Statement.{statement}
-use Rattle.record.proofs.lists.has_no_repeat.Tie as tie
+use Rattle.lists.specs.Lists.{distinct}
+use Rattle.lists.proofs.ListsLaws.{distinct-stop, distinct-go, distinct-end}
+use Rattle.lists.proofs.has_no_repeat.Statement.{statement}
+use Rattle.lists.proofs.has_no_repeat.Tie as tie
 
 abbrev Inv-loop : tie.InvT-loop
 Inv-loop s i₀ i = distinct s ≡ distinct (drop i s)

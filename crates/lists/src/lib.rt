@@ -2,7 +2,7 @@
 ghost use mathlib.Core.Path.{_≡_};
 ghost use Prim.Native.Nat.{_≤_};
 ghost use lib.ListN.{take};
-ghost use Rattle.record.specs.Lists.{allZero, names, distinct};
+ghost use Rattle.lists.specs.Lists.{allZero, names, distinct};
 use layout::Numbers;
 
 // Whether each number is 0. Every one is looked at, so that the machine can look at many at once.

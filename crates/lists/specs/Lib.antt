@@ -1,0 +1,2 @@
+-- Facts about lists of numbers.
+pub mod Lists
