@@ -1,2 +1,2 @@
 -- Laws that the proofs of the code share.
-pub mod StirLaws
+pub mod SaidLaws

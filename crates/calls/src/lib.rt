@@ -1,3 +1,2 @@
-// The step over bytes, equal to the machine's, and ticks to which nothing comes.
-pub mod quiet;
+// The step over bytes, equal to the machine's.
 pub mod step;

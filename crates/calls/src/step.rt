@@ -9,8 +9,6 @@ ghost use Rattle.machine.specs.Sorts.{sortOf, placeOf};
 ghost use Rattle.machine.specs.Refusals.{formalRefusal};
 ghost use Rattle.machine.specs.Step.{settle, step};
 ghost use Rattle.refusals.specs.Inner.{aboutOne};
-use crate::quiet::is_tick;
-use crate::quiet::quiet_tick;
 use calendar::LAST_INSTANT;
 use changes::change_of;
 use changes::runner_at;
@@ -26,6 +24,8 @@ use machine::Running;
 use machine::Sort;
 use machine::State;
 use machine::Stepped;
+use quiet_ticks::is_tick;
+use quiet_ticks::quiet_tick;
 use record::Read;
 use refusals::formal::admit;
 use refusals::sorts::asked_kind;
@@ -38,9 +38,9 @@ use refusals::state::state_refusal;
 use serving::ends::answered;
 use serving::ends::finished;
 use serving::ends::no_sets;
+use sets::nobody_turned;
+use sets::put_marks;
 use ticks::ticked;
-use urgency::sets::nobody_turned;
-use urgency::sets::put_marks;
 
 // A call about task i and the locks: what refuses it, or what it does.
 fn done_to(mut k: State, i: usize, sort: Sort, h: Head, list: Numbers, r: Running) -> Stepped

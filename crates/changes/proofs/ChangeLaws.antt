@@ -41,7 +41,7 @@ use Rattle.machine.proofs.WorkPairs.{no-wait-named, no-wait-runner}
 use Rattle.machine.specs.Sets.{only, mark, noSets, onlyIn}
 use Rattle.machine.specs.declared.Sets.{Sets}
 use Rattle.machine.proofs.SetLaws.{members-each, each-same}
-use Rattle.urgency.specs.Puts.{putIf, putMarks}
+use Rattle.sets.specs.Puts.{putIf, putMarks}
 use Rattle.survey.specs.Looks.{waitsOk}
 use Rattle.serving.specs.Ends.{asBefore, workHere}
 use Rattle.serving.proofs.AskLaws.{wait-begins}

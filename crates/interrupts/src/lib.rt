@@ -10,7 +10,7 @@ ghost use Rattle.machine.specs.Work.{everyTurn};
 ghost use Rattle.machine.specs.Calls.{trigger, enable, interruptBy};
 ghost use Rattle.machine.specs.Step.{finish};
 ghost use Rattle.survey.specs.Looks.{waitsOk};
-ghost use Rattle.urgency.specs.Standing.{Turned};
+ghost use Rattle.sets.specs.Standing.{Turned};
 use layout::Head;
 use layout::Mark;
 use machine::Sets;
@@ -19,9 +19,9 @@ use machine::Stepped;
 use serving::ends::done;
 use serving::ends::finished;
 use serving::ends::no_sets;
-use urgency::sets::Standing;
-use urgency::sets::nobody_turned;
-use urgency::sets::put_marks;
+use sets::Standing;
+use sets::nobody_turned;
+use sets::put_marks;
 
 // A kernel at work, the sets so far, and who turned.
 pub struct Working {

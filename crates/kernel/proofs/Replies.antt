@@ -13,8 +13,8 @@ use Rattle.kernel.specs.Reply.{reply}
 use Rattle.kernel.specs.declared.Reply.{Reply}
 
 -- A step, handed on.
-pub step-replies : (s t : Stepped) → t ≡ s → reply t ≡ reply s
-step-replies s t e = ap reply e
+pub step-replies : (s t : Stepped) (r : Reply) → t ≡ s → r ≡ reply t → r ≡ reply s
+step-replies s t r e f = f ∙ ap reply e
 
 -- A call, by its record.
 pub record-replies :

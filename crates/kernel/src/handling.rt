@@ -12,7 +12,18 @@ use declaring::fresh::fresh;
 use layout::Call;
 use layout::fields::bytes_of;
 use machine::Running;
+use machine::Stepped;
 use urgency::scan::running;
+
+// A step's next kernel and answer, as they are.
+fn replied(stepped: Stepped) -> Reply
+    ensures { λ r. ⌜ r ≡ reply stepped ⌝ }
+{
+    let state = stepped.state;
+    let answer = stepped.answer;
+    let kernel = Kernel { state };
+    Reply { kernel, answer }
+}
 
 impl Kernel {
     // Nothing is declared.
@@ -34,10 +45,7 @@ impl Kernel {
         ensures { λ r. ⌜ r ≡ reply (step day (self .state) (now (s .entry))) ⌝ }
     {
         let stepped = step(self.state, s);
-        let state = stepped.state;
-        let answer = stepped.answer;
-        let kernel = Kernel { state };
-        Reply { kernel, answer }
+        replied(stepped)
     }
 
     // A call or declaration, by its record.

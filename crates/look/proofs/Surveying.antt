@@ -23,8 +23,8 @@ use Rattle.urgency.specs.Leads.{noLead, Weighed, whose}
 use Rattle.urgency.specs.declared.scan.Lead.{Lead}
 use Rattle.urgency.proofs.LeadLaws.{Led, canRun, led-none, led-more, led-passed}
 use Rattle.survey.specs.Looks.{atEase, unfit, surveyed}
-use Rattle.survey.specs.Next.{momentOf}
-use Rattle.survey.proofs.NextLaws.{nextAmong, among-none, among-more, among-all}
+use Rattle.coming.specs.Next.{momentOf}
+use Rattle.coming.proofs.NextLaws.{nextAmong, among-none, among-more, among-all}
 use Rattle.survey.proofs.TaskFit.{eased-runs, busy-rests}
 use Rattle.survey.proofs.TestLaws.{fitAt, Upto, upto-none, upto-passes}
 use Rattle.order.specs.Seen.{noneSeen, withPlace, seenBy}

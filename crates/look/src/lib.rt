@@ -6,6 +6,9 @@ ghost use Rattle.survey.specs.Looks.{unfit, surveyed};
 use calendar::LAST_INSTANT;
 use calendar::Moment;
 use calendar::is_time_of_day;
+use coming::moment_of;
+use coming::sooner_due;
+use coming::sooner_end;
 use granting::is_missing;
 use granting::no_writers;
 use granting::writers_of;
@@ -21,9 +24,6 @@ use survey::check::is_continuation_ok;
 use survey::check::is_kept_right;
 use survey::check::is_planned;
 use survey::check::is_schedule_ok;
-use survey::next::moment_of;
-use survey::next::sooner_due;
-use survey::next::sooner_end;
 use urgency::scan::no_lead;
 
 // The survey of a kernel that fails the test.

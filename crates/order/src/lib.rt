@@ -9,11 +9,11 @@ ghost use Rattle.task.specs.declared.Task.{Task};
 ghost use Rattle.machine.specs.Places.{event, toEnd, moved};
 ghost use Rattle.machine.specs.Sets.{holds};
 ghost use Rattle.machine.specs.State.{mostTasks};
-ghost use Rattle.urgency.specs.Standing.{Stands};
+ghost use Rattle.sets.specs.Standing.{Stands};
 use machine::MOST_TASKS;
 use machine::Places;
-use urgency::sets::Standing;
-use urgency::sets::is_in;
+use sets::Standing;
+use sets::is_in;
 
 // Task i goes to the last of n places, and those behind it close up. All of the table is gone through, so that the
 // machine can take many places at once.

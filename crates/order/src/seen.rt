@@ -7,7 +7,7 @@ ghost use Rattle.machine.specs.State.{mostTasks};
 ghost use Rattle.machine.specs.Test.{placesOk};
 ghost use Rattle.order.specs.Seen.{noneSeen, withPlace, seenBy};
 use machine::MOST_TASKS;
-use urgency::sets::put_task;
+use sets::put_task;
 
 // The places as a set, in which place p counts 2^p, and the bits of all their numbers together, which are small only
 // if each number is.

@@ -1,3 +1,2 @@
 -- Laws that the proofs of the code share.
 pub mod QueueLaws
-pub mod TextLaws

@@ -1,6 +1,4 @@
 // How long a waiting task waits: after how many RELEASEs a task that waits for one semaphore is granted.
-pub mod text;
-
 ghost use mathlib.Core.Path.{_≡_};
 ghost use mathlib.Core.Bool.{_&&_};
 ghost use Prim.Native.Nat.{_+_, _*_, _<_, _≤_};

@@ -12,9 +12,9 @@ use feed::keep;
 use feed::read_on;
 use kernel::Kernel;
 use libc::STDOUT_FILENO;
-use queue::text::text_at;
 use script::Script;
 use script::run::run_from;
+use wait_lines::text_at;
 
 // Carries the records of bytes out. The lines of their answers are left in the buffer and not printed.
 fn carry(script: Script, bytes: &[u8], out: &mut [u8]) -> Script

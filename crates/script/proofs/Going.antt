@@ -34,8 +34,8 @@ use Rattle.machine.proofs.Refused.{untested-refused}
 use Rattle.lines.specs.Buffers.{placed, Wrote}
 use Rattle.lines.specs.Lines.{line, longestLine}
 use Rattle.lines.proofs.PlacedLaws.{then}
-use Rattle.calls.specs.Stirring.{isTick}
-use Rattle.calls.proofs.StirLaws.{tick-bytes}
+use Rattle.quiet_ticks.specs.Stirring.{isTick}
+use Rattle.quiet_ticks.proofs.QuietLaws.{tick-bytes}
 use Rattle.script.specs.Records.{records}
 use Rattle.script.specs.Printed.{shown, printed}
 use Rattle.script.specs.Script.{goingOn, afterText, carried, some, Tells, Runs}

@@ -12,17 +12,17 @@ use crate::Script;
 use crate::Stand;
 use calendar::Duration;
 use calendar::LAST_INSTANT;
-use calls::quiet::is_tick;
 use calls::step::step_on;
+use coming::next_event;
 use kernel::Kernel;
 use layout::RECORD_LENGTH;
 use lines::line_at;
 use look::survey;
 use machine::Answer;
 use machine::Running;
+use quiet_ticks::is_tick;
 use serving::ends::begun_at;
 use serving::ends::plain;
-use survey::next::next_event;
 
 pub const LONGEST_LINE: usize = 63;
 

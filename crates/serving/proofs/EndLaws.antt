@@ -22,9 +22,10 @@ use Rattle.machine.specs.declared.State.{State}
 use Rattle.machine.proofs.Places.{apart-of, moved-alike, event-runnable}
 use Rattle.machine.proofs.Urgency.{scan-same, scan-passing}
 use Rattle.urgency.specs.Leads.{whose, urgencyThen}
-use Rattle.urgency.specs.Standing.{Stands, Turned, turnedIf, Scanned}
+use Rattle.sets.specs.Standing.{Stands, Turned, turnedIf}
+use Rattle.urgency.specs.Scanned.{Scanned}
 use Rattle.urgency.specs.declared.scan.Lead.{Lead}
-use Rattle.urgency.specs.declared.sets.Standing.{Standing}
+use Rattle.sets.specs.declared.Standing.{Standing}
 use Rattle.urgency.proofs.LeadLaws.{canRun}
 use Rattle.order.proofs.Behind.{then-urgent}
 use Rattle.order.proofs.EventLaws.{holds-or}

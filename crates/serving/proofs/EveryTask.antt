@@ -45,7 +45,7 @@ use Rattle.machine.specs.declared.Sets.{Sets}
 use Rattle.machine.specs.declared.Running.{Running}
 use Rattle.machine.specs.declared.Running.the-variants.{Idle}
 use Rattle.machine.specs.Places.{event, moved}
-use Rattle.urgency.specs.Puts.{putIf, putMarks}
+use Rattle.sets.specs.Puts.{putIf, putMarks}
 use Rattle.survey.proofs.TestLaws.{wait-of}
 use Rattle.survey.specs.Looks.{waitsOk}
 use Rattle.waiters.specs.Served.{served, servedOf}

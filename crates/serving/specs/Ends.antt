@@ -9,7 +9,7 @@ use Rattle.machine.specs.declared.Answer.{Answer}
 use Rattle.machine.specs.declared.Running.{Running}
 use Rattle.machine.specs.declared.State.{State}
 use Rattle.machine.specs.declared.Sets.{Sets}
-use Rattle.urgency.specs.Standing.{Scanned}
+use Rattle.urgency.specs.Scanned.{Scanned}
 use Rattle.waiters.specs.Served.{withServed, servedOf}
 use Rattle.serving.specs.declared.ends.Round.{Round}
 

@@ -1,4 +1,3 @@
 -- Laws that the proofs of the code share.
 pub mod TestLaws
 pub mod TaskFit
-pub mod NextLaws

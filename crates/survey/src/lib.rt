@@ -1,6 +1,5 @@
-// The parts of a look at a kernel: of the kernel test, and the next event.
+// What a look at a kernel tells, and the parts of the kernel test.
 pub mod check;
-pub mod next;
 
 use calendar::Moment;
 use machine::Running;

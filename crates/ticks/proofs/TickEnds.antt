@@ -25,10 +25,10 @@ use Rattle.machine.proofs.Places.{Apart, apart-of, moved-alike}
 use Rattle.machine.proofs.SetLaws.{has-empty}
 use Rattle.machine.proofs.Works.{turn-at, set-at}
 use Rattle.urgency.specs.Leads.{whose}
-use Rattle.urgency.specs.Standing.{turnedIf, Turned}
+use Rattle.sets.specs.Standing.{turnedIf, Turned}
 use Rattle.urgency.specs.declared.scan.Lead.{Lead}
 use Rattle.urgency.proofs.LeadLaws.{canRun}
-use Rattle.urgency.proofs.SetTill.{Till}
+use Rattle.sets.proofs.SetTill.{Till}
 use Rattle.order.proofs.Behind.{then-urgent}
 use Rattle.serving.proofs.EveryTask.{KeepsWait, tick-keeps, everyEvent}
 use Rattle.ticks.proofs.TickRuns.{Leading, tick-event}

@@ -39,9 +39,9 @@ use Rattle.machine.proofs.SetLaws.{has-empty}
 use Rattle.urgency.specs.Leads.{nobody, noLead, leadOf, against, Weighed, Leads, urgencyThen}
 use Rattle.urgency.specs.declared.scan.Lead.{Lead}
 use Rattle.urgency.proofs.LeadLaws.{canRun, leads-nobody, leads-one, nobody-late}
-use Rattle.urgency.specs.Puts.{putIf}
-use Rattle.urgency.specs.Standing.{turnedIf}
-use Rattle.urgency.proofs.SetTill.{put-here, put-other}
+use Rattle.sets.specs.Puts.{putIf}
+use Rattle.sets.specs.Standing.{turnedIf}
+use Rattle.sets.proofs.SetTill.{put-here, put-other}
 
 -- ---- one number that changes
 

@@ -26,12 +26,12 @@ use serving::ends::answered;
 use serving::ends::begun_at;
 use serving::ends::finished;
 use serving::ends::no_sets;
+use sets::Standing;
+use sets::put_if;
+use sets::put_marks;
 use task::Hold;
 use urgency::scan::no_lead;
 use urgency::scan::place_if;
-use urgency::sets::Standing;
-use urgency::sets::put_if;
-use urgency::sets::put_marks;
 
 // Whether something may come at n to a task that is held so, with these next dues. It comes to no other.
 fn may_come(hold: Hold, start: Instant, continuation: Instant, n: Instant) -> bool

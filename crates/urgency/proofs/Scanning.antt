@@ -9,11 +9,11 @@ use Rattle.machine.specs.Sets.{holds}
 use Rattle.machine.specs.State.{mostTasks, taskAt, placeAt}
 use Rattle.machine.specs.declared.State.{State}
 use Rattle.urgency.specs.Leads.{noLead, Weighed, urgencyThen}
-use Rattle.urgency.specs.Puts.{putIf}
-use Rattle.urgency.specs.Standing.{Scanned}
+use Rattle.sets.specs.Puts.{putIf}
+use Rattle.urgency.specs.Scanned.{Scanned}
 use Rattle.urgency.specs.declared.scan.Lead.{Lead}
 use Rattle.urgency.proofs.LeadLaws.{Led, canRun, led-none, led-more}
-use Rattle.urgency.proofs.SetTill.{Till, till-none, till-more}
+use Rattle.sets.proofs.SetTill.{Till, till-none, till-more}
 
 module _ (k : State) (late : ℕ) where
   pub record Scanning (i : ℕ) (lead : Lead) (r w : ℕ) : Type 0 where

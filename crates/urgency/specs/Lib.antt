@@ -1,4 +1,3 @@
 -- Names for the contracts of this crate.
 pub mod Leads
-pub mod Puts
-pub mod Standing
+pub mod Scanned

@@ -1,3 +1,2 @@
-// The order of urgency: sets of tasks, and the scan that finds who is runnable, who waits and who is the most urgent.
+// The order of urgency, and the scan that finds who is runnable, who waits and who is the most urgent.
 pub mod scan;
-pub mod sets;

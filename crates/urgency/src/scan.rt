@@ -7,14 +7,14 @@ ghost use Rattle.task.specs.State.{unheld};
 ghost use Rattle.machine.specs.State.{mostTasks};
 ghost use Rattle.machine.specs.Running.{mostPlaces, someone, runner};
 ghost use Rattle.urgency.specs.Leads.{nobody, noLead, against, whose, Weighed};
-ghost use Rattle.urgency.specs.Standing.{Scanned};
-use crate::sets::Standing;
-use crate::sets::is_in;
-use crate::sets::put_if;
+ghost use Rattle.urgency.specs.Scanned.{Scanned};
 use lock::Wait;
 use lock::is_waiting;
 use machine::Running;
 use machine::State;
+use sets::Standing;
+use sets::is_in;
+use sets::put_if;
 use task::Hold;
 
 const MOST_TASKS: usize = machine::MOST_TASKS as usize;

@@ -5,7 +5,7 @@ ghost use mathlib.Core.Path.{_≡_};
 ghost use Prim.Native.Nat.{_≤_};
 use kernel::Kernel;
 use machine::State;
-use queue::text::text_at;
+use wait_lines::text_at;
 
 fn print_waits(k: State) {
     let mut out = [0u8; 1024];

@@ -14,9 +14,9 @@ use lock::Way;
 use lock::is_waiting;
 use machine::Running;
 use machine::State;
+use sets::put_task;
 use urgency::scan::no_lead;
 use urgency::scan::urgency_of;
-use urgency::sets::put_task;
 
 // A kernel whose waiting tasks have been served, and who was granted.
 pub struct Serviced {

@@ -10,8 +10,8 @@ use Rattle.calendar.specs.Limits.{day}
 use Rattle.task.specs.Turns.{triggerTurn}
 use Rattle.task.proofs.Laws.{deaf}
 use Rattle.granting.proofs.Owned.{tasks-long}
-use Rattle.urgency.specs.Standing.{Turned}
-use Rattle.urgency.proofs.Turning.{turned-more}
+use Rattle.sets.specs.Standing.{Turned}
+use Rattle.sets.proofs.Turning.{turned-more}
 use Rattle.serving.proofs.EveryTask.{Made, made-none, made-all, made-long, made-more, made-still, task-now}
 use Rattle.interrupts.proofs.trigger_all.Statement.{statement}
 use Rattle.interrupts.proofs.trigger_all.Tie as tie

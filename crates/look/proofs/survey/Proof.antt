@@ -19,7 +19,7 @@ use Rattle.granting.specs.Writers.{Known, TellsFor}
 use Rattle.granting.proofs.Owned.{Owned, given-small}
 use Rattle.granting.proofs.WriterLaws.{known-none, ready-told, ready-known}
 use Rattle.survey.specs.Looks.{atEase, unfit, surveyed}
-use Rattle.survey.specs.Next.{momentOf}
+use Rattle.coming.specs.Next.{momentOf}
 use Rattle.survey.proofs.TaskFit.{plan-none, continuation-none, no-start, Starts, start-none, start-kept, eased, odd-priority, odd-schedule, odd-continuation, odd-kept, odd-busy, fit-eased, fit-busy}
 use Rattle.survey.proofs.TestLaws.{fitAt, upto-fails, upto-all, out-of-range, counted, tasks-fit, all-fit}
 use Rattle.look.proofs.Surveying.{Looked, sooner-more, sooner-same, led-eased, led-busy, looked-none, looked-next, looked-event, looked-places, looked-runs, unfit-is, fit-is}

@@ -32,8 +32,8 @@ use Rattle.machine.proofs.Turns.{good-tick}
 use Rattle.machine.specs.Places.{moved}
 use Rattle.machine.specs.Sets.{holds}
 use Rattle.granting.proofs.Owned.{Owned, tasks-long, tables-long}
-use Rattle.urgency.proofs.SetTill.{Till, till-none, till-more, till-still, unlike}
-use Rattle.urgency.specs.Standing.{turnedIf, Turned}
+use Rattle.sets.proofs.SetTill.{Till, till-none, till-more, till-still, unlike}
+use Rattle.sets.specs.Standing.{turnedIf, Turned}
 use Rattle.waiters.specs.Served.{served}
 use Rattle.serving.specs.Ends.{answerOf}
 use Rattle.serving.proofs.EveryTask.{Made, made-none, made-all, made-more, made-still, task-now, Steady, steady-more, steady-still, tick-keeps, everyDone, every-waits, every-idle, every-unserved, every-served, tick-early, tick-late}

@@ -16,8 +16,8 @@ use Rattle.machine.proofs.Passed.{tested, parts}
 use Rattle.granting.specs.Writers.{TellsFor}
 use Rattle.granting.proofs.WriterLaws.{known-none, ready-told, ready-known}
 use Rattle.granting.proofs.Owned.{tasks-long}
-use Rattle.urgency.specs.Standing.{Turned}
-use Rattle.urgency.proofs.Turning.{turned-more}
+use Rattle.sets.specs.Standing.{Turned}
+use Rattle.sets.proofs.Turning.{turned-more}
 use Rattle.serving.proofs.TurnCases.{sound}
 use Rattle.refusals.specs.Inner.{aboutOne}
 use Rattle.changes.proofs.CallLaws.{in-order, place-in, ground, settled-refused}

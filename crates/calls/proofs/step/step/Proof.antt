@@ -8,7 +8,8 @@ use Rattle.machine.specs.Step.{step}
 use Rattle.machine.specs.Test.{valid}
 use Rattle.machine.specs.declared.State.{State}
 use Rattle.changes.proofs.CallLaws.{step-1}
-use Rattle.calls.proofs.StirLaws.{said-unfit, said-fit, said-runner, in-time, said-quiet, tick-bytes}
+use Rattle.quiet_ticks.proofs.QuietLaws.{tick-bytes}
+use Rattle.calls.proofs.SaidLaws.{said-unfit, said-fit, said-runner, in-time, said-quiet}
 use borrow.Author.Needs.{needs}
 use Rattle.calls.proofs.step.step.Statement.{statement}
 use Rattle.calls.proofs.step.step.Tie as tie

@@ -21,7 +21,7 @@ use Rattle.machine.proofs.Quiet.{tick-step}
 use Rattle.granting.proofs.Owned.{tasks-long}
 use Rattle.refusals.specs.Inner.{aboutOne}
 use Rattle.refusals.proofs.Admitting.{admitted-formal}
-use Rattle.calls.proofs.StirLaws.{tick-bytes}
+use Rattle.quiet_ticks.proofs.QuietLaws.{tick-bytes}
 use Rattle.changes.proofs.CallLaws.{past, settled-declared, settled-interrupt, settled-tick, step-refused, step-admitted}
 use Rattle.changes.proofs.ChangeLaws.{interrupt-left, tick-left}
 use Rattle.calls.proofs.step.step_on.Statement.{statement}

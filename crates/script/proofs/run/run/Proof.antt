@@ -12,7 +12,7 @@ use Rattle.lines.specs.Lines.{longestLine}
 use Rattle.lock.proofs.Bools.{both}
 use Rattle.calendar.specs.Limits.{day, lastInstant}
 use Rattle.calendar.specs.Moments.{upTo}
-use Rattle.calls.proofs.StirLaws.{said-ok, said-runner, said-next}
+use Rattle.calls.proofs.SaidLaws.{said-ok, said-runner, said-next}
 use Rattle.granting.proofs.Owned.{tables-long}
 use Rattle.script.proofs.Going.{Still, still-next, Going, good, early, few, ahead, fits, started, stopped, refused, moved, stepped}
 use Rattle.script.proofs.run.run.Statement.{statement}

@@ -13,7 +13,8 @@ use Rattle.machine.specs.State.{mostTasks}
 use Rattle.machine.specs.declared.Running.the-variants.{Idle}
 use Rattle.machine.proofs.SetLaws.{has-empty}
 use Rattle.granting.proofs.Owned.{Owned, tables-long}
-use Rattle.urgency.specs.Standing.{Stands, Turned, Scanned}
+use Rattle.sets.specs.Standing.{Stands, Turned}
+use Rattle.urgency.specs.Scanned.{Scanned}
 use Rattle.urgency.proofs.Scanning.{Scanning, scanning-none, scanning-more, scanning-all}
 use Rattle.waiters.specs.Served.{served}
 use Rattle.waiters.proofs.WaitLaws.{tasks-fit}

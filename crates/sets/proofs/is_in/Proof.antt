@@ -1,0 +1,22 @@
+-- The digit at i.
+use borrow.Author.Needs.{needs}
+use mathlib.Core.Path.{ap}
+use Prim.Native.Nat.{ℕ, _/_, _^_}
+use lib.Bits.{and-mask}
+use lib.Dec.{eqb}
+use Rattle.machine.specs.Sets.{has}
+use Rattle.sets.proofs.is_in.Statement.{statement}
+use Rattle.sets.proofs.is_in.Tie as tie
+
+cast-result : tie.Need-cast-result
+cast-result c = search needs
+
+shr-result : tie.Need-shr-result
+shr-result c = search needs
+
+returns : tie.Need-returns
+unfolding has
+returns c = ap (λ (x : ℕ). eqb x 1) (and-mask (c .args .set / 2 ^ c .args .i) 1)
+
+pub is-in-spec : {M : Type 1} → statement M
+is-in-spec = tie.close (tie.spec cast-result shr-result returns)

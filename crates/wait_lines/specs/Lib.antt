@@ -1,0 +1,2 @@
+-- What is written of the tasks that wait.
+pub mod Text
