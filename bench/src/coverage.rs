@@ -5,6 +5,7 @@ use std::fmt;
 use crate::answer::Answer;
 use crate::kernel::{Kernel, List, State, Wait};
 use crate::record::{Mark, Record, LETTERS};
+use crate::unused::{lone_stray, Strays};
 
 #[derive(Default)]
 pub struct Coverage {
@@ -15,6 +16,8 @@ pub struct Coverage {
     without_mark: u64,
     /// Answers by number, 0 to 15.
     numbers: [u64; 16],
+    /// Records refused for one bit alone.
+    strays: Strays,
     start_kinds: [u64; 6],
     end_kinds: [u64; 3],
     continue_kinds: [u64; 5],
@@ -72,6 +75,9 @@ impl Coverage {
         };
         if answer.number != 0 {
             self.refused[record.mark as usize] += 1;
+            if answer.number == 3 {
+                self.strays.note(lone_stray(bytes));
+            }
             return;
         }
         self.accepted[record.mark as usize] += 1;
@@ -186,6 +192,7 @@ impl fmt::Display for Coverage {
             write!(f, " {i}: {count}")?;
         }
         writeln!(f)?;
+        writeln!(f, "{}", self.strays)?;
         writeln!(
             f,
             "start kinds 0 to 5: {:?}, end kinds 0 to 2: {:?}",

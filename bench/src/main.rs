@@ -24,6 +24,7 @@ mod tests;
 mod timing;
 mod trouble;
 mod turns;
+mod unused;
 mod waits;
 mod watch;
 

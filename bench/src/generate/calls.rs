@@ -356,7 +356,7 @@ impl Maker {
         }
     }
 
-    fn priority_or_none(&mut self) -> u8 {
+    pub fn priority_or_none(&mut self) -> u8 {
         match self.random.below(8) {
             0 if self.kind == Kind::Turns => self.random.between(3, 5) as u8,
             _ if self.kind == Kind::Turns => 0,
@@ -373,7 +373,7 @@ impl Maker {
     }
 
     /// Mostly so short that it runs out within the script.
-    fn duration(&mut self) -> u32 {
+    pub fn duration(&mut self) -> u32 {
         match self.random.below(12) {
             0 => 1,
             1 => self.random.between(1, 200),
@@ -389,7 +389,7 @@ impl Maker {
     }
 
     /// Mostly a time of day near the present one.
-    fn time(&mut self) -> u32 {
+    pub fn time(&mut self) -> u32 {
         let present = time_of_day(self.kernel.at_zero, self.kernel.now);
         match self.random.below(10) {
             0 => self.random.below(DAY),

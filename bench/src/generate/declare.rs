@@ -31,6 +31,9 @@ impl Maker {
             if self.kind == Kind::Damaged && self.random.once_in(12) {
                 self.damaged_record();
             }
+            if self.kind == Kind::Damaged && self.random.once_in(8) {
+                self.put_stray();
+            }
             if self.random.once_in(20) {
                 self.too_early();
             }
@@ -85,7 +88,7 @@ impl Maker {
     }
 
     /// Few different priorities, so that equals are common.
-    fn task(&mut self) -> Draft {
+    pub fn task(&mut self) -> Draft {
         let priority = match self.random.below(10) {
             0..=2 if self.kind == Kind::Turns => self.random.between(3, 5),
             _ if self.kind == Kind::Turns => 4,
@@ -96,7 +99,7 @@ impl Maker {
         Draft::new(b"DT").priority(priority as u8)
     }
 
-    fn semaphore(&mut self) -> Draft {
+    pub fn semaphore(&mut self) -> Draft {
         let preset = match self.random.below(10) {
             1..=9 if matches!(self.kind, Kind::Turns | Kind::Queues) => self.random.below(2),
             0 => 65_535,
@@ -107,7 +110,7 @@ impl Maker {
         Draft::new(b"DS").first(preset)
     }
 
-    fn time_at_zero(&mut self) -> u32 {
+    pub fn time_at_zero(&mut self) -> u32 {
         match self.random.below(4) {
             0 => self.random.below(DAY),
             1 => self.random.below(40),

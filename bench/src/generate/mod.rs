@@ -8,6 +8,7 @@ mod calls;
 mod damage;
 mod declare;
 mod queues;
+mod stray;
 mod turns;
 
 use crate::draft::Draft;
@@ -19,11 +20,13 @@ use crate::random::Random;
 pub enum Kind {
     /// All marks, nearly all records well formed and fitting.
     Valid,
-    /// Good records between damaged ones; some scripts end in a short rest.
+    /// Good records between damaged ones, and between ones of every form that a
+    /// single bit spoils; some scripts end in a short rest.
     Damaged,
     /// Many tasks after few semaphores and bolts.
     Contended,
-    /// Schedules, delays and many ticks, often around midnight.
+    /// Schedules, delays and many ticks, often around midnight; among them ticks
+    /// that are refused for one bit.
     Idle,
     /// Readers and writers of few bolts; while they wait they are held, go on
     /// with another priority, or end.
@@ -76,6 +79,10 @@ pub fn script(kind: Kind, seed: u64, records: usize) -> Vec<u8> {
     while maker.left > 0 {
         if kind == Kind::Damaged && maker.random.percent(45) {
             maker.damaged_record();
+        } else if kind == Kind::Damaged && maker.random.once_in(4) {
+            maker.put_stray();
+        } else if kind == Kind::Idle && maker.random.once_in(25) {
+            maker.put_stray_tick();
         } else {
             let call = maker.call();
             maker.put(call);

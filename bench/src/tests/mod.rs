@@ -7,6 +7,7 @@ mod readings;
 mod scripts;
 mod turns;
 mod unsound;
+mod unused;
 mod waits;
 mod writers;
 

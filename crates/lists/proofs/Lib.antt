@@ -1,2 +1,4 @@
--- Scans of a list.
+-- Scans of a list, zero bytes, and the theorems.
 pub mod ListsLaws
+pub mod ZeroLaws
+pub mod Theorems

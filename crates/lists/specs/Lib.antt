@@ -1,2 +1,3 @@
 -- Facts about lists of numbers.
 pub mod Lists
+pub mod Promises

@@ -4,6 +4,7 @@ use mathlib.Core.Bool.{Bool, true, false}
 use mathlib.Core.List.{List, [], _∷_}
 use mathlib.Core.Logic.{⊎-elim, inl, inr}
 use Prim.Native.Nat.{ℕ, zero, suc}
+use native.Mathlib.Nat.{zero-add}
 use native.Mathlib.Omega.{arith}
 use lib.ListN.{replicate}
 use borrow.Author.Tests.{eqb-false}
@@ -15,9 +16,10 @@ use Rattle.lists.specs.Lists.{names}
 use Rattle.record.specs.Refusals.{formed, listed, timed, unless, before, shape, times, refusal}
 use Rattle.record.specs.Reading.{numberOf, refused, accepted, callWith, opened, orRefused, judged, reading}
 use Rattle.record.specs.Writing.{orZeros, written}
-use Rattle.record.specs.Promises.{WrittenReadsBack, ReadWritesBack, WriterRefusesAsReader, RefusedWritesZeros, NoRecord, TwoIsNoRecord, RecordIsJudged, ReaderNumbers}
+use Rattle.record.specs.Promises.{WrittenReadsBack, ReadWritesBack, WriterRefusesAsReader, RefusedWritesZeros, NoRecord, TwoIsNoRecord, RecordIsJudged, ReaderNumbers, StretchesAreUnused, StretchesStandApart}
 use Rattle.layout.proofs.FieldsLaws.{fields-bytes}
 use Rattle.layout.proofs.MarksLaws.{known}
+use Rattle.record.proofs.StretchLaws.{lies-unused, apart-from}
 use Rattle.record.proofs.OpenedLaws.{bytes-opened, Opening, unsized, unmarked, marked, opens, opened-known}
 
 -- ---- what is read, once bytes are opened
@@ -129,3 +131,11 @@ reader-numbers day s = by (opens s) where
   by (unsized ne e) = rw (two day s e)
   by (unmarked ne e) = rw (two day s e)
   by (marked m l k e) = rw (judged-as day s e) (refusal-cases P refl refl refl refl day (callOf m s))
+
+-- ---- unused bytes; that they are the unused fields stands in UnusedLaws
+
+pub stretches-are-unused : StretchesAreUnused
+stretches-are-unused used i = rw (zero-add i) at (lies-unused used 0 i)
+
+pub stretches-stand-apart : StretchesStandApart
+stretches-stand-apart used = apart-from 0 used

@@ -1,18 +1,19 @@
 -- What reader and writer promise of each other, for every call and any bytes. Proved in proofs/Theorems.antt.
 use mathlib.Core.Path.{_≡_}
-use mathlib.Core.Bool.{true}
+use mathlib.Core.Bool.{Bool, true, not, _&&_}
 use mathlib.Core.List.{List, [], _∷_}
 use mathlib.Core.Logic.{_⊎_, _↔_}
 use Prim.Native.Nat.{ℕ, suc}
-use lib.ListN.{length, replicate}
+use lib.ListN.{length, getD, replicate}
 use Rattle.layout.specs.declared.Mark.{Mark}
 use Rattle.layout.specs.declared.Head.{Head}
 use Rattle.layout.specs.declared.Call.{Call}
 use Rattle.record.specs.declared.Read.the-variants.{Accepted}
 use Rattle.layout.specs.Marks.{code}
-use Rattle.layout.specs.Fields.{recordLength, letters, callOf, bytesOf, FourPlaces, Octets}
+use Rattle.layout.specs.Fields.{recordLength, byte, letters, headOf, callOf, bytesOf, FourPlaces, Octets}
 use Rattle.lists.specs.Lists.{names}
-use Rattle.record.specs.Refusals.{refusal}
+use Rattle.record.specs.Refusals.{Used, cleanNames, cleanStart, refusal}
+use Rattle.record.specs.Stretches.{stretches, unused, zeroIn, lies, ApartFrom}
 use Rattle.record.specs.Reading.{numberOf, accepted, callWith, reading}
 use Rattle.record.specs.Writing.{written}
 
@@ -55,3 +56,19 @@ RecordIsJudged =
 abbrev pub ReaderNumbers : Type 0
 ReaderNumbers =
     (day : ℕ) (s : List ℕ) → names (0 ∷ 2 ∷ 3 ∷ 4 ∷ 6 ∷ []) (numberOf (reading day s .answer)) ≡ true
+
+-- ---- unused bytes
+
+-- Each unused byte lies in one of the stretches, and no used byte in any.
+abbrev pub StretchesAreUnused : Type 0
+StretchesAreUnused = (used : List Bool) (i : ℕ) → lies i (stretches 0 used) ≡ not (getD used i true)
+
+-- A used byte stands between any two of them, so none could be longer.
+abbrev pub StretchesStandApart : Type 0
+StretchesStandApart = (used : List Bool) → ApartFrom 0 (stretches 0 used)
+
+-- The unused fields of any bytes are zero exactly when their stretches are, whatever fields are used.
+abbrev pub StretchesAreTheFields : Type 0
+StretchesAreTheFields =
+    (u : Used) (m : Mark) (s : List ℕ)
+    → (cleanNames u (callOf m s) && cleanStart u (headOf m s)) ≡ zeroIn s (unused u (byte s 4))

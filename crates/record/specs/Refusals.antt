@@ -158,10 +158,6 @@ ranged OneNumber h = leb (h .len) mostNumbers
 abbrev pub startFormed : Head → Bool
 startFormed h = cleanStart (start (h .kind) (h .endkind)) h && ranged Activation h
 
--- The start of a CONTINUE or RESUME passes refusal 3, with a first time used or not.
-abbrev pub goingFormed : Bool → Head → Bool
-goingFormed f h = cleanStart (going true f (h .kind)) h && leb (h .kind) lastPlainKind
-
 abbrev pub formedAs : Form → Call → Bool
 formedAs f c = cleanNames (uses f (c .head)) c && (cleanStart (uses f (c .head)) (c .head) && ranged f (c .head))
 

@@ -1,13 +1,14 @@
 // Refusals 3 and 4: unused fields, ranges and lists.
 // `&` and `|` join tests that are all safe to make.
 ghost use mathlib.Core.Path.{_≡_};
-ghost use mathlib.Core.Bool.{_&&_};
-ghost use Prim.Native.Nat.{_≤_};
-ghost use lib.Dec.{leb};
+ghost use mathlib.Core.Bool.{true, false, _&&_, _||_};
+ghost use Prim.Native.Nat.{_+_, _≤_};
+ghost use lib.Dec.{leb, eqb};
 ghost use lib.ListN.{length, drop};
 ghost use Rattle.layout.specs.Fields.{recordLength, headOf, listOf};
 ghost use Rattle.lists.specs.Lists.{allZero, stretch};
-ghost use Rattle.record.specs.Refusals.{mostNumbers, orZero, startFormed, goingFormed, formed, listed, shape};
+ghost use Rattle.record.specs.Refusals.{mostNumbers, lastKind, lastPlainKind, lastEndKind, onInterrupt, atTime, afterDuration, plain, start, going, formed, listed, shape};
+ghost use Rattle.record.specs.Stretches.{startBytes, usedStart, stretches, unused, zeroIn};
 ghost use Rattle.layout.specs.Marks.{form};
 ghost use Rattle.record.specs.Reading.{callWith};
 use crate::LAST_END_KIND;
@@ -23,7 +24,16 @@ use layout::Numbers;
 use layout::RECORD_LENGTH;
 use layout::marks::form_of;
 use lists::is_distinct;
-use lists::zeros;
+use lists::zero_between;
+
+// Whether the record is zero from a on.
+fn zero_from(s: &[u8], a: usize) -> bool
+    requires { ⌜ length (now s) ≡ recordLength ⌝ }
+    requires { ⌜ a ≤ recordLength ⌝ }
+    ensures { λ r. ⌜ r ≡ allZero (stretch (now (s .entry)) a recordLength) ⌝ }
+{
+    zero_between(s, a, RECORD_LENGTH)
+}
 
 // Whether the bytes behind the mark are zero, but for those from a up to b.
 fn zero_around(s: &[u8], a: usize, b: usize) -> bool
@@ -31,50 +41,112 @@ fn zero_around(s: &[u8], a: usize, b: usize) -> bool
     requires { ⌜ (2 ≤ a) × (a ≤ b) × (b ≤ recordLength) ⌝ }
     ensures { λ r. ⌜ r ≡ (allZero (stretch (now (s .entry)) 2 a) && allZero (stretch (now (s .entry)) b recordLength)) ⌝ }
 {
-    zeros(&s[2..a]) & zeros(&s[b..RECORD_LENGTH])
+    zero_between(s, 2, a) & zero_from(s, b)
 }
 
-// Whether a list's length is in range, the list's bytes past it zero, and every field but the list.
-fn is_list_formed(s: &[u8], len: u8, list: Numbers) -> bool
+// Whether all bytes behind the last number of a list are zero.
+fn zero_past(s: &[u8], len: u8) -> bool
     requires { ⌜ length (now s) ≡ recordLength ⌝ }
-    ensures { λ r. ⌜ r ≡ (leb len mostNumbers && (allZero (drop len list) && (allZero (stretch (now (s .entry)) 2 4) && allZero (stretch (now (s .entry)) 9 recordLength)))) ⌝ }
+    requires { ⌜ len ≤ mostNumbers ⌝ }
+    ensures { λ r. ⌜ r ≡ allZero (drop (5 + len) (now (s .entry))) ⌝ }
+{
+    match len {
+        0 => zero_from(s, 5),
+        1 => zero_from(s, 6),
+        2 => zero_from(s, 7),
+        3 => zero_from(s, 8),
+        _ => zero_from(s, 9),
+    }
+}
+
+// Whether a list's length is in range and the bytes are zero that its call doesn't use.
+fn is_list_formed(s: &[u8], len: u8) -> bool
+    requires { ⌜ length (now s) ≡ recordLength ⌝ }
+    ensures { λ r. ⌜ r ≡ (leb len mostNumbers && zeroIn (now (s .entry)) (unused (plain false false true false) len)) ⌝ }
 {
     if MOST_NUMBERS < len {
         return false;
     }
-    let n = len as usize;
-    zeros(&list[n..]) & zero_around(s, 4, 9)
+    zero_between(s, 2, 4) & zero_past(s, len)
 }
 
-// Whether a field is used or zero.
-fn used_or_zero(used: bool, x: u32) -> bool
-    ensures { λ r. ⌜ r ≡ orZero used x ⌝ }
+// Whether the bytes behind the kind of a CONTINUE or RESUME are zero that it doesn't use.
+fn is_going_clean(s: &[u8], when: bool, first: bool) -> bool
+    requires { ⌜ length (now s) ≡ recordLength ⌝ }
+    ensures { λ r. ⌜ r ≡ zeroIn (now (s .entry)) (stretches 10 (startBytes when false first false false)) ⌝ }
 {
-    used | (x == 0)
+    if first {
+        if when {
+            return zero_between(s, 11, 12) & zero_from(s, 16);
+        }
+        return zero_between(s, 10, 12) & zero_from(s, 16);
+    }
+    if when {
+        return zero_from(s, 11);
+    }
+    zero_from(s, 10)
 }
 
-// Whether an activation's kinds are in range, and the fields zero that they don't use.
-fn is_start_formed(h: Head) -> bool
-    ensures { λ r. ⌜ r ≡ startFormed h ⌝ }
+// Whether a CONTINUE's kind is in range and the bytes are zero that it doesn't use.
+fn is_continuation_formed(s: &[u8], kind: u8) -> bool
+    requires { ⌜ length (now s) ≡ recordLength ⌝ }
+    ensures { λ r. ⌜ r ≡ (leb kind lastPlainKind && zeroIn (now (s .entry)) (unused (going true (atTime kind || afterDuration kind) kind) 0)) ⌝ }
 {
-    used_or_zero(is_on_interrupt(h.kind), h.interrupt as u32)
-        & used_or_zero(0 < h.kind, h.endkind as u32)
-        & used_or_zero(has_first(h.kind), h.first)
-        & used_or_zero(0 < h.kind, h.period)
-        & used_or_zero(0 < h.endkind, h.endtime)
-        & ((h.kind <= LAST_KIND) & (h.endkind <= LAST_END_KIND))
+    (kind <= LAST_PLAIN_KIND)
+        & zero_between(s, 4, 9)
+        & is_going_clean(s, is_on_interrupt(kind), has_first(kind))
 }
 
-// Whether the kind of a CONTINUE or RESUME is in range, and the fields zero that it doesn't use.
-fn is_going_formed(h: Head, first: bool) -> bool
-    ensures { λ r. ⌜ r ≡ goingFormed first h ⌝ }
+// The same of a RESUME, which names no task and has no priority.
+fn is_resumption_formed(s: &[u8], kind: u8) -> bool
+    requires { ⌜ length (now s) ≡ recordLength ⌝ }
+    ensures { λ r. ⌜ r ≡ (leb kind lastPlainKind && zeroIn (now (s .entry)) (unused (going false (eqb kind 0 || (atTime kind || afterDuration kind)) kind) 0)) ⌝ }
 {
-    used_or_zero(is_on_interrupt(h.kind), h.interrupt as u32)
-        & (h.endkind == 0)
-        & used_or_zero(first, h.first)
-        & (h.period == 0)
-        & (h.endtime == 0)
-        & (h.kind <= LAST_PLAIN_KIND)
+    (kind <= LAST_PLAIN_KIND)
+        & zero_between(s, 2, 9)
+        & is_going_clean(s, is_on_interrupt(kind), (kind == 0) | has_first(kind))
+}
+
+// Whether the bytes behind the kind of a scheduled activation are zero that it doesn't use, but for its end's time.
+fn is_schedule_clean(s: &[u8], kind: u8) -> bool
+    requires { ⌜ length (now s) ≡ recordLength ⌝ }
+    ensures { λ r. ⌜ r ≡ zeroIn (now (s .entry)) (stretches 10 (startBytes (onInterrupt kind) true (atTime kind || afterDuration kind) true true)) ⌝ }
+{
+    match kind {
+        1 => zero_between(s, 10, 11),
+        2 => zero_between(s, 10, 11),
+        3 => zero_between(s, 12, 16),
+        4 => true,
+        _ => zero_between(s, 10, 11) & zero_between(s, 12, 16),
+    }
+}
+
+// Whether the bytes behind the kind of an activation are zero that it doesn't use.
+fn is_start_clean(s: &[u8], kind: u8, endkind: u8) -> bool
+    requires { ⌜ length (now s) ≡ recordLength ⌝ }
+    ensures { λ r. ⌜ r ≡ zeroIn (now (s .entry)) (stretches 10 (usedStart (start kind endkind))) ⌝ }
+{
+    if kind == 0 {
+        if 0 < endkind {
+            return zero_between(s, 10, 20);
+        }
+        return zero_from(s, 10);
+    }
+    if 0 < endkind {
+        return is_schedule_clean(s, kind);
+    }
+    is_schedule_clean(s, kind) & zero_from(s, 20)
+}
+
+// Whether an activation's kinds are in range and the bytes are zero that it doesn't use.
+fn is_activation_formed(s: &[u8], kind: u8, endkind: u8) -> bool
+    requires { ⌜ length (now s) ≡ recordLength ⌝ }
+    ensures { λ r. ⌜ r ≡ (leb kind lastKind && leb endkind lastEndKind && zeroIn (now (s .entry)) (unused (start kind endkind) 0)) ⌝ }
+{
+    (kind <= LAST_KIND)
+        & (endkind <= LAST_END_KIND)
+        & zero_between(s, 4, 9)
+        & is_start_clean(s, kind, endkind)
 }
 
 // Whether the record passes refusal 3.
@@ -87,16 +159,16 @@ pub(crate) fn is_formed(s: &[u8], h: Head, list: Numbers) -> bool
     let mark = h.mark;
     let f = form_of(mark);
     match f {
-        Form::Bare => zero_around(s, 2, 2),
-        Form::Number => zero_around(s, 2, 3),
-        Form::Continuation => zeros(&s[4..9]) & is_going_formed(h, has_first(h.kind)),
+        Form::Bare => zero_from(s, 2),
+        Form::Number => zero_from(s, 3),
+        Form::Continuation => is_continuation_formed(s, h.kind),
         Form::DeclaredPriority => (1 <= h.priority) & zero_around(s, 3, 4),
         Form::Preset => (h.first <= MOST_VALUE) & zero_around(s, 12, 16),
         Form::TimeOfDay => zero_around(s, 12, 16),
-        Form::Resumption => zeros(&s[2..9]) & is_going_formed(h, (h.kind == 0) | has_first(h.kind)),
-        Form::Activation => zeros(&s[4..9]) & is_start_formed(h),
-        Form::Numbers => is_list_formed(s, h.len, list),
-        Form::OneNumber => is_list_formed(s, h.len, list),
+        Form::Resumption => is_resumption_formed(s, h.kind),
+        Form::Activation => is_activation_formed(s, h.kind, h.endkind),
+        Form::Numbers => is_list_formed(s, h.len),
+        Form::OneNumber => is_list_formed(s, h.len),
     }
 }
 

@@ -12,10 +12,13 @@ use layout::Form;
 use layout::Head;
 use layout::marks::form_of;
 
-// Whether an end's time is in range: UNTIL a time of day, DURING a duration.
+// Whether an end's time is in range: UNTIL a time of day, DURING a duration. Most activations have no end.
 fn is_end_timed(endkind: u8, t: u32) -> bool
     ensures { λ r. ⌜ r ≡ endTimed day endkind t ⌝ }
 {
+    if endkind == 0 {
+        return true;
+    }
     ((endkind != 1) | is_time_of_day(t)) & ((endkind != 2) | is_duration(t))
 }
 

@@ -1,6 +1,7 @@
 // Reads records from standard input, each behind a byte with its length. Prints a line for each: the reader's
 // number, and the number that the writer gives for the same fields, or - where the record has no fields.
 ghost use mathlib.Core.Path.{_≡_};
+ghost use Prim.Native.Nat.{_≤_};
 ghost use Rattle.record.specs.Reading.{numberOf};
 use layout::Call;
 use record::Read;
@@ -16,8 +17,10 @@ fn number_of(answer: Read) -> u8
     }
 }
 
+// A byte as a length.
 fn wide(b: u8) -> usize
     ensures { λ r. ⌜ r ≡ b ⌝ }
+    ensures { λ r. ⌜ r ≤ 255 ⌝ }
 {
     b as usize
 }
@@ -44,22 +47,17 @@ fn print_line(s: &[u8]) {
     io::write_all(1, b"\n");
 }
 
-fn print_lines(s: &[u8]) {
-    let mut at = 0;
-    while at < s.len() {
-        let len = wide(s[at]);
-        let from = at + 1;
-        if s.len() - from < len {
+fn main() {
+    let mut buf = [0u8; 256];
+    let mut one = [0u8; 1];
+    let mut turns = u64::MAX;
+    while turns > 0 {
+        turns -= 1;
+        if io::read_full(0, &mut one) == 0 {
             return;
         }
-        let to = from + len;
-        print_line(&s[from..to]);
-        at = to;
+        let len = wide(one[0]);
+        let n = io::read_full(0, &mut buf[..len]);
+        print_line(&buf[..n]);
     }
-}
-
-fn main() {
-    let mut buf = io::large_buffer();
-    let n = io::read_full(0, &mut buf);
-    print_lines(&buf[..n]);
 }

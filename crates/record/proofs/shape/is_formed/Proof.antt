@@ -1,66 +1,46 @@
 -- Form by form.
 use borrow.Author.Needs.{needs}
-use mathlib.Core.Bool.{true}
-use Rattle.record.specs.Refusals.{formed, uses, ranged}
-use Rattle.record.proofs.ShapeLaws.{alone, with-number, with-priority, with-first, with-start, with-going, unnamed-going, with-list}
+use mathlib.Core.Path.{sym, _∙_}
+use Rattle.record.specs.Refusals.{uses, ranged}
+use Rattle.record.specs.Stretches.{usedBytes}
+use Rattle.record.proofs.ShapeLaws.{formed-by, bare, number, declared-priority, preset, time-of-day}
 use Rattle.record.proofs.shape.is_formed.Statement.{statement}
 use Rattle.record.proofs.shape.is_formed.Tie as tie
 
 returns : tie.Need-returns
-unfolding formed uses ranged
-returns c = rw (← c .before .before .before .form-of .ensures, c .before .enum-told .given .1, c .zero-around .ensures) (alone _ _ _ _ (c .before .before .before .before .before .pre) true)
+returns c = formed-by _ _ _ _ (c .before .before .before .before .before .pre) _ (sym (c .before .before .before .form-of .ensures) ∙ c .before .enum-told .given .1) (bare _ _ _ _ (c .before .before .before .before .before .pre) (c .zero-from .ensures))
 
 returns-2 : tie.Need-returns-2
-unfolding formed uses ranged
-returns-2 c = rw (← c .before .before .before .form-of .ensures, c .before .enum-told2 .given .1, c .zero-around2 .ensures) (with-number _ _ _ _ (c .before .before .before .before .before .pre) true)
+returns-2 c = formed-by _ _ _ _ (c .before .before .before .before .before .pre) _ (sym (c .before .before .before .form-of .ensures) ∙ c .before .enum-told2 .given .1) (number _ _ _ _ (c .before .before .before .before .before .pre) (c .zero-from2 .ensures))
 
 returns-3 : tie.Need-returns-3
-unfolding formed uses ranged
-returns-3 c =
-    rw (
-      ← c .before .before .before .before .before .before .form-of .ensures,
-      c .before .before .before .before .enum-told3 .given .1,
-      c .before .before .zeros .ensures,
-      c .is-going-formed .ensures,
-      c .before .has-first .ensures,
-    )
-    (with-going _ _ _ _ (c .before .before .before .before .before .before .before .before .pre) _)
+unfolding uses ranged usedBytes
+returns-3 c = formed-by _ _ _ _ (c .before .before .before .before .before .pre) _ (sym (c .before .before .before .form-of .ensures) ∙ c .before .enum-told3 .given .1) (c .is-continuation-formed .ensures)
 
 returns-4 : tie.Need-returns-4
-unfolding formed uses ranged
-returns-4 c = rw (← c .before .before .before .before .form-of .ensures, c .before .before .enum-told4 .given .1, c .zero-around3 .ensures) (with-priority _ _ _ _ (c .before .before .before .before .before .before .pre) _)
+returns-4 c = formed-by _ _ _ _ (c .before .before .before .before .before .before .pre) _ (sym (c .before .before .before .before .form-of .ensures) ∙ c .before .before .enum-told4 .given .1) (declared-priority _ _ _ _ (c .before .before .before .before .before .before .pre) (c .zero-around .ensures))
 
 returns-5 : tie.Need-returns-5
-unfolding formed uses ranged
-returns-5 c = rw (← c .before .before .before .before .form-of .ensures, c .before .before .enum-told5 .given .1, c .zero-around4 .ensures) (with-first _ _ _ _ (c .before .before .before .before .before .before .pre) _)
+returns-5 c = formed-by _ _ _ _ (c .before .before .before .before .before .before .pre) _ (sym (c .before .before .before .before .form-of .ensures) ∙ c .before .before .enum-told5 .given .1) (preset _ _ _ _ (c .before .before .before .before .before .before .pre) (c .zero-around2 .ensures))
 
 returns-6 : tie.Need-returns-6
-unfolding formed uses ranged
-returns-6 c = rw (← c .before .before .before .form-of .ensures, c .before .enum-told6 .given .1, c .zero-around5 .ensures) (with-first _ _ _ _ (c .before .before .before .before .before .pre) true)
+returns-6 c = formed-by _ _ _ _ (c .before .before .before .before .before .pre) _ (sym (c .before .before .before .form-of .ensures) ∙ c .before .enum-told6 .given .1) (time-of-day _ _ _ _ (c .before .before .before .before .before .pre) (c .zero-around3 .ensures))
 
 returns-7 : tie.Need-returns-7
-unfolding formed uses ranged
-returns-7 c =
-    rw (
-      ← c .before .before .before .before .before .before .before .form-of .ensures,
-      c .before .before .before .before .before .enum-told7 .given .1,
-      c .before .before .before .zeros2 .ensures,
-      c .is-going-formed2 .ensures,
-      c .before .has-first2 .ensures,
-    )
-    (unnamed-going _ _ _ _ (c .before .before .before .before .before .before .before .before .before .pre) _)
+unfolding uses ranged usedBytes
+returns-7 c = formed-by _ _ _ _ (c .before .before .before .before .before .pre) _ (sym (c .before .before .before .form-of .ensures) ∙ c .before .enum-told7 .given .1) (c .is-resumption-formed .ensures)
 
 returns-8 : tie.Need-returns-8
-unfolding formed uses ranged
-returns-8 c = rw (← c .before .before .before .before .before .form-of .ensures, c .before .before .before .enum-told8 .given .1, c .before .zeros3 .ensures, c .is-start-formed .ensures) (with-start _ _ _ _ (c .before .before .before .before .before .before .before .pre))
+unfolding uses ranged usedBytes
+returns-8 c = formed-by _ _ _ _ (c .before .before .before .before .before .pre) _ (sym (c .before .before .before .form-of .ensures) ∙ c .before .enum-told8 .given .1) (c .is-activation-formed .ensures)
 
 returns-9 : tie.Need-returns-9
-unfolding formed uses ranged
-returns-9 c = rw (← c .before .before .before .form-of .ensures, c .before .enum-told9 .given .1, c .is-list-formed .ensures) (with-list _ _ _ _ (c .before .before .before .before .before .pre))
+unfolding uses ranged usedBytes
+returns-9 c = formed-by _ _ _ _ (c .before .before .before .before .before .pre) _ (sym (c .before .before .before .form-of .ensures) ∙ c .before .enum-told9 .given .1) (c .is-list-formed .ensures)
 
 returns-10 : tie.Need-returns-10
-unfolding formed uses ranged
-returns-10 c = rw (← c .before .before .before .form-of .ensures, c .before .enum-told10 .given .1, c .is-list-formed2 .ensures) (with-list _ _ _ _ (c .before .before .before .before .before .pre))
+unfolding uses ranged usedBytes
+returns-10 c = formed-by _ _ _ _ (c .before .before .before .before .before .pre) _ (sym (c .before .before .before .form-of .ensures) ∙ c .before .enum-told10 .given .1) (c .is-list-formed2 .ensures)
 
 pub is-formed-spec : {M : Type 1} → statement M
 is-formed-spec =
@@ -72,11 +52,6 @@ is-formed-spec =
     (λ c. search needs)
     (λ c κs. search needs)
     (λ c. search needs)
-    (λ c. search needs)
-    (λ c. search needs)
-    (λ c. search needs)
-    (λ c κs. search needs)
-    (λ c κs. search needs)
     (λ c κs. search needs)
     (λ c. search needs)
     (λ c κs. search needs)
@@ -85,17 +60,8 @@ is-formed-spec =
     (λ c. search needs)
     (λ c κs. search needs)
     (λ c. search needs)
-    (λ c. search needs)
-    (λ c. search needs)
-    (λ c. search needs)
-    (λ c κs. search needs)
-    (λ c κs. search needs)
     (λ c κs. search needs)
     (λ c. search needs)
-    (λ c. search needs)
-    (λ c. search needs)
-    (λ c. search needs)
-    (λ c κs. search needs)
     (λ c κs. search needs)
     (λ c. search needs)
     (λ c κs. search needs)

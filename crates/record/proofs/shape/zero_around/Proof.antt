@@ -4,18 +4,12 @@ use Rattle.record.proofs.shape.zero_around.Statement.{statement}
 use Rattle.record.proofs.shape.zero_around.Tie as tie
 
 returns : tie.Need-returns
-returns c = rw (c .before .before .zeros .ensures, c .zeros2 .ensures)
+returns c = rw (c .before .zero-between .ensures, c .zero-from .ensures)
 
 pub zero-around-spec : {M : Type 1} → statement M
 zero-around-spec =
     tie.close
     (tie.spec
-    (λ c. search needs)
-    (λ c. search needs)
-    (λ c. search needs)
     (λ c κs. search needs)
-    (λ c. search needs)
-    (λ c. search needs)
-    (λ c. search needs)
     (λ c κs. search needs)
     returns)
