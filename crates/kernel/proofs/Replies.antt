@@ -20,3 +20,7 @@ step-replies s t r e f = f ∙ ap reply e
 pub record-replies :
     (k : State) (c : Call) (s : List ℕ) (r : Reply) → FourPlaces c → s ≡ bytesOf c → r ≡ reply (step day k s) → r ≡ reply (carry day k c)
 record-replies k c s r four e f = f ∙ ap (λ b. reply (step day k b)) e ∙ ap reply (step-is-carry day k c four)
+
+-- A call that its statement gives.
+pub statement-replies : (k : State) (c d : Call) (r : Reply) → c ≡ d → r ≡ reply (carry day k c) → r ≡ reply (carry day k d)
+statement-replies k c d r e f = f ∙ ap (λ b. reply (carry day k b)) e

@@ -1,3 +1,2 @@
--- What the methods promise: the call that each stands for, and the reply to it.
+-- What the methods promise: the reply to the call that each stands for.
 pub mod Reply
-pub mod Calls

@@ -2,54 +2,60 @@
 ghost use mathlib.Core.Path.{_≡_};
 ghost use Rattle.calendar.specs.Limits.{day};
 ghost use Rattle.machine.specs.Step.{carry};
+ghost use Rattle.pearl.specs.Calls.{requestCall, releaseCall, tryCall, reserveCall, freeCall, enterCall, leaveCall};
 ghost use Rattle.kernel.specs.Reply.{reply};
-ghost use Rattle.kernel.specs.Calls.{requestCall, releaseCall, tryCall, reserveCall, freeCall, enterCall, leaveCall};
 use crate::Kernel;
 use crate::Reply;
-use layout::Mark;
 use layout::Numbers;
+use pearl::locks::enter;
+use pearl::locks::free;
+use pearl::locks::leave;
+use pearl::locks::release;
+use pearl::locks::request;
+use pearl::locks::reserve;
+use pearl::locks::try_request;
 
 impl Kernel {
     pub fn request(self, len: u8, list: Numbers) -> Reply
         ensures { λ r. ⌜ r ≡ reply (carry day (self .state) (requestCall len list)) ⌝ }
     {
-        self.plain(Mark::RQ, 0, 0, len, list, 0)
+        self.carry(request(len, list))
     }
 
     pub fn release(self, len: u8, list: Numbers) -> Reply
         ensures { λ r. ⌜ r ≡ reply (carry day (self .state) (releaseCall len list)) ⌝ }
     {
-        self.plain(Mark::RL, 0, 0, len, list, 0)
+        self.carry(release(len, list))
     }
 
     // TRY: never waits.
     pub fn try_request(self, semaphore: u8) -> Reply
         ensures { λ r. ⌜ r ≡ reply (carry day (self .state) (tryCall semaphore)) ⌝ }
     {
-        self.plain(Mark::TR, 0, 0, 1, [semaphore, 0, 0, 0], 0)
+        self.carry(try_request(semaphore))
     }
 
     pub fn reserve(self, len: u8, list: Numbers) -> Reply
         ensures { λ r. ⌜ r ≡ reply (carry day (self .state) (reserveCall len list)) ⌝ }
     {
-        self.plain(Mark::RS, 0, 0, len, list, 0)
+        self.carry(reserve(len, list))
     }
 
     pub fn free(self, len: u8, list: Numbers) -> Reply
         ensures { λ r. ⌜ r ≡ reply (carry day (self .state) (freeCall len list)) ⌝ }
     {
-        self.plain(Mark::FR, 0, 0, len, list, 0)
+        self.carry(free(len, list))
     }
 
     pub fn enter(self, len: u8, list: Numbers) -> Reply
         ensures { λ r. ⌜ r ≡ reply (carry day (self .state) (enterCall len list)) ⌝ }
     {
-        self.plain(Mark::ET, 0, 0, len, list, 0)
+        self.carry(enter(len, list))
     }
 
     pub fn leave(self, len: u8, list: Numbers) -> Reply
         ensures { λ r. ⌜ r ≡ reply (carry day (self .state) (leaveCall len list)) ⌝ }
     {
-        self.plain(Mark::LV, 0, 0, len, list, 0)
+        self.carry(leave(len, list))
     }
 }

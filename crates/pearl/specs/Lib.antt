@@ -1,0 +1,2 @@
+-- Statements of a program as calls.
+pub mod Calls

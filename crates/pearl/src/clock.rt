@@ -1,0 +1,31 @@
+// Interrupts and ticks: TRIGGER, ENABLE, DISABLE and one tick of the clock.
+ghost use mathlib.Core.Path.{_≡_};
+ghost use Rattle.pearl.specs.Calls.{triggerCall, enableCall, disableCall, tickCall};
+use crate::fields::NO_LIST;
+use crate::fields::plain;
+use layout::Call;
+use layout::Mark;
+
+pub fn trigger(interrupt: u8) -> Call
+    ensures { λ r. ⌜ r ≡ triggerCall interrupt ⌝ }
+{
+    plain(Mark::TG, interrupt, 0, 0, NO_LIST, 0)
+}
+
+pub fn enable(interrupt: u8) -> Call
+    ensures { λ r. ⌜ r ≡ enableCall interrupt ⌝ }
+{
+    plain(Mark::EI, interrupt, 0, 0, NO_LIST, 0)
+}
+
+pub fn disable(interrupt: u8) -> Call
+    ensures { λ r. ⌜ r ≡ disableCall interrupt ⌝ }
+{
+    plain(Mark::XI, interrupt, 0, 0, NO_LIST, 0)
+}
+
+pub fn tick() -> Call
+    ensures { λ r. ⌜ r ≡ tickCall ⌝ }
+{
+    plain(Mark::TI, 0, 0, 0, NO_LIST, 0)
+}
