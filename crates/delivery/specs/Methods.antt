@@ -3,9 +3,9 @@ use mathlib.Core.List.{List}
 use Prim.Native.Nat.{ℕ}
 use Rattle.layout.specs.declared.Call.{Call}
 use Rattle.pearl.specs.Calls.{taskDeclaration, semaphoreDeclaration, boltDeclaration, interruptDeclaration, clockDeclaration, activateCall, terminateCall, suspendCall, preventCall, continueCall, endCall, resumeCall, requestCall, releaseCall, tryCall, reserveCall, freeCall, enterCall, leaveCall, triggerCall, enableCall, disableCall, tickCall}
+use Rattle.pearl.specs.declared.StartCondition.{StartCondition}
 use Rattle.kernel.specs.declared.Kernel.{Kernel}
 use Rattle.kernel.specs.declared.Reply.{Reply}
-use Rattle.pearl.specs.declared.StartCondition.{StartCondition}
 use Rattle.kernel.proofs.Kernel.declare_task.Reads as DT
 use Rattle.kernel.proofs.Kernel.declare_semaphore.Reads as DS
 use Rattle.kernel.proofs.Kernel.declare_bolt.Reads as DB
