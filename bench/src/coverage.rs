@@ -14,8 +14,8 @@ pub struct Coverage {
     accepted: [u64; 23],
     refused: [u64; 23],
     without_mark: u64,
-    /// Answers by number, 0 to 15.
-    numbers: [u64; 16],
+    /// Answers by number, 0 to 16.
+    numbers: [u64; 17],
     /// Records refused for one bit alone.
     strays: Strays,
     start_kinds: [u64; 6],
@@ -148,7 +148,7 @@ impl Coverage {
         self.runs_by_place += u64::from(by_number.running() != answer.running);
         let mut by_number = before.clone();
         by_number.forget_events();
-        if by_number.running() == before.running() {
+        if by_number.running() == before.stored() {
             let served = by_number.step(bytes).sets.granted;
             self.served_by_place += u64::from(served != sets.granted);
         }
@@ -173,7 +173,7 @@ fn continuation_comes_due(before: &Kernel, call: &Record, i: usize) -> bool {
             before.enabled[usize::from(call.number)] && first == Some(now)
         }
         Mark::Continue => usize::from(call.number) == i && at_once(),
-        Mark::Resume => before.running().map(usize::from) == Some(i) && at_once(),
+        Mark::Resume => before.stored().map(usize::from) == Some(i) && at_once(),
         _ => false,
     }
 }

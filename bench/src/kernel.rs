@@ -175,6 +175,9 @@ pub struct Kernel {
     pub tasks: [Task; TASKS],
     /// The place of each task in the order of events, see `turns.rs`.
     pub places: [u8; TASKS],
+    /// The running task on file, stored with every accepted record. A kernel in
+    /// which it isn't the one that the rule gives gets refusal 16.
+    pub on_file: Option<u8>,
     pub semaphores: [u16; SEMAPHORES],
     pub bolts: [Bolt; BOLTS],
     pub enabled: [bool; INTERRUPTS],
@@ -189,6 +192,7 @@ impl Kernel {
             counts: Counts::default(),
             tasks: [Task::declared(Priority::MIN); TASKS],
             places: [0; TASKS],
+            on_file: None,
             semaphores: [0; SEMAPHORES],
             bolts: [Bolt::default(); BOLTS],
             enabled: [false; INTERRUPTS],

@@ -1,4 +1,4 @@
-//! Who goes before whom, and finding the running task.
+//! Who goes before whom, and the running task, looked for or on file.
 
 use crate::kernel::{Kernel, Priority};
 
@@ -44,5 +44,11 @@ impl Kernel {
             }
         }
         runner.number()
+    }
+
+    /// The task on file, without a look: the running one, unless the kernel was
+    /// changed by other means than a step.
+    pub fn stored(&self) -> Option<u8> {
+        self.on_file
     }
 }

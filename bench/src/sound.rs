@@ -1,8 +1,8 @@
 //! Refusal 1: is the kernel value one that may be worked with?
 //!
-//! The same look finds the running task and those that wait. What the types rule
-//! out, such as a priority of 0, a semaphore above 65,535 or a terminated task
-//! that is held, needs no test.
+//! The same look finds the running task, which refusal 16 compares with the one on
+//! file, and those that wait. What the types rule out, such as a priority of 0, a
+//! semaphore above 65,535 or a terminated task that is held, needs no test.
 
 use crate::calendar::{is_duration, is_time_of_day};
 use crate::grant::members;

@@ -14,7 +14,8 @@ type Refusal = u8;
 enum Effect {
     /// Nothing: the runner goes on, no list opened, and nobody had an event. No
     /// wait, hold or priority is another one, and nothing was given back. If that
-    /// were wrong, the next record would find a grantable list and get refusal 1.
+    /// were wrong, the next record would find a grantable list and get refusal 1,
+    /// or another runner than the one on file and get refusal 16.
     Quiet,
     /// Lists that opened; without one nobody had an event and the runner goes on.
     MayOpen,
@@ -27,14 +28,20 @@ impl Kernel {
         let Ok(found) = self.survey() else {
             return Answer::refusal(1, None);
         };
+        if self.on_file != found.running {
+            return Answer::refusal(16, None);
+        }
         let mut sets = Sets::default();
         match self.carry_out(bytes, &found, &mut sets) {
             Err(number) => Answer::refusal(number, found.running),
-            Ok(running) => Answer {
-                number: 0,
-                running,
-                sets,
-            },
+            Ok(running) => {
+                self.on_file = running;
+                Answer {
+                    number: 0,
+                    running,
+                    sets,
+                }
+            }
         }
     }
 

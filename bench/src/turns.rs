@@ -41,10 +41,12 @@ impl Kernel {
         places[i] = places.len() as u8 - 1;
     }
 
-    /// All tasks stand as if they had had no event yet.
+    /// All tasks stand as if they had had no event yet, and the one that runs
+    /// then is on file.
     pub fn forget_events(&mut self) {
         for (i, place) in self.declared_places_mut().iter_mut().enumerate() {
             *place = i as u8;
         }
+        self.on_file = self.running();
     }
 }

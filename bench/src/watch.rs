@@ -43,7 +43,7 @@ impl Call<'_> {
             record,
             answer,
             issuer: before
-                .running()
+                .stored()
                 .map(|i| before.tasks[usize::from(i)].current),
             changes_a_priority: tasks.enumerate().any(changed),
         }

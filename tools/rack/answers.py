@@ -26,6 +26,7 @@ REFUSALS = {
     13: "semaphore full",
     14: "no writer or reader there",
     15: "last instant reached",
+    16: "wrong running task on file",
 }
 
 

@@ -187,7 +187,7 @@ impl Maker {
     fn fitting(&mut self, mark: &'static [u8; 2]) -> Option<Draft> {
         let draft = Draft::new(mark);
         let needs_runner = b"ENRERQRLTRRSFRETLV".chunks(2).any(|m| m == mark);
-        if needs_runner && self.kernel.running().is_none() {
+        if needs_runner && self.kernel.stored().is_none() {
             return None;
         }
         Some(match mark {

@@ -24,7 +24,7 @@ impl Maker {
         let task = self.some_task(|_| true)?;
         let draft = if self.kernel.tasks[usize::from(task)].held() {
             Draft::new(b"CO").on(task)
-        } else if self.kernel.running() == Some(task) && self.random.percent(70) {
+        } else if self.kernel.stored() == Some(task) && self.random.percent(70) {
             Draft::new(b"RE")
         } else {
             Draft::new(b"AC").on(task)
@@ -54,7 +54,7 @@ impl Maker {
 
     /// Gives back what is waited for, several at once if there are.
     fn give_to_those_who_wait(&mut self) -> Option<Draft> {
-        self.kernel.running()?;
+        self.kernel.stored()?;
         let (mark, mut choices) = match self.random.below(4) {
             0 => (b"FR", self.bolts(|b| b.writer)),
             1 => (b"LV", self.bolts(|b| b.readers > 0)),
@@ -75,7 +75,7 @@ impl Maker {
 
     /// Ends a task with a start kept back, or has one kept back for the runner.
     fn end_and_start_anew(&mut self) -> Option<Draft> {
-        let runner = self.kernel.running()?;
+        let runner = self.kernel.stored()?;
         if self.kernel.tasks[usize::from(runner)].kept.is_some() {
             return Some(Draft::new(b"EN"));
         }

@@ -3,6 +3,7 @@
 mod continuations;
 mod formats;
 mod marked;
+mod on_file;
 mod readings;
 mod scripts;
 mod turns;

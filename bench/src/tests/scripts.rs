@@ -21,21 +21,24 @@ fn the_same_seed_gives_the_same_script() {
     }
 }
 
-/// Refusal 1 in a script would mean that a step left an unsound kernel behind.
+/// Refusal 1 in a script would mean that a step left an unsound kernel behind,
+/// and refusal 16 that it left a wrong task on file.
 #[test]
-fn no_script_reaches_refusal_1() {
+fn no_script_reaches_refusal_1_or_16() {
     for seed in 0..200 {
         for kind in KINDS {
             let mut kernel = Kernel::new();
             for record in script(kind, seed, 200).chunks(RECORD) {
-                assert_ne!(kernel.step(record).number, 1, "{kind:?} {seed}");
+                let number = kernel.step(record).number;
+                assert!(!matches!(number, 1 | 16), "{kind:?} {seed}");
                 assert!(kernel.survey().is_ok());
             }
         }
     }
 }
 
-/// The runner that a step hands back without looking is the one that a look finds.
+/// The runner that a step hands back and stores without looking is the one that a
+/// look finds.
 #[test]
 fn the_running_task_is_always_looked_up_right() {
     for seed in 0..200 {
@@ -44,6 +47,27 @@ fn the_running_task_is_always_looked_up_right() {
             for record in script(kind, seed, 200).chunks(RECORD) {
                 let answer = kernel.step(record);
                 assert_eq!(answer.running, kernel.running(), "{kind:?} {seed}");
+                assert_eq!(kernel.stored(), kernel.running(), "{kind:?} {seed}");
+            }
+        }
+    }
+}
+
+/// With any other task on file, a kernel that a script leaves is refused.
+#[test]
+fn one_task_alone_may_be_on_file() {
+    for seed in 0..50 {
+        for kind in KINDS {
+            let mut kernel = Kernel::new();
+            for record in script(kind, seed, 200).chunks(RECORD) {
+                kernel.step(record);
+            }
+            let running = kernel.running();
+            for on_file in (0..=u8::MAX).map(Some).chain([None]) {
+                kernel.on_file = on_file;
+                let number = if on_file == running { 2 } else { 16 };
+                let found = kernel.step(b"not a record").number;
+                assert_eq!(found, number, "{kind:?} {seed} {on_file:?}");
             }
         }
     }
@@ -164,6 +188,8 @@ fn equally_urgent_tasks_go_by_their_last_events() {
                 let first = order.iter().min_by_key(|&&i| tasks[i].current);
                 let running = answer.running.map(usize::from);
                 assert_eq!(running, first.copied(), "{kind:?} {seed}");
+                let stored = kernel.stored().map(usize::from);
+                assert_eq!(stored, first.copied(), "{kind:?} {seed}");
             }
         }
     }
@@ -175,6 +201,7 @@ fn text_by_number(script: &[u8]) -> String {
     let mut out = Vec::new();
     for record in script.chunks(RECORD) {
         let mut answer = kernel.step(record);
+        assert_ne!(answer.number, 16);
         kernel.forget_events();
         answer.running = kernel.running();
         if has_line(&kernel, &answer) {

@@ -24,6 +24,8 @@ use Rattle.machine.specs.Step.{step}
 use Rattle.machine.specs.Log.{AllOctets, isDeclaration, final, log}
 use Rattle.machine.specs.Invariants.{IsDay}
 use Rattle.machine.proofs.Below.{mostUrgent-none}
+use Rattle.machine.proofs.Filing.{taken-valid}
+use Rattle.machine.proofs.Refused.{refusals-numbered}
 use Rattle.machine.proofs.Facts.{StateOk, passes-of-ok, ok-of-passes}
 use Rattle.balance.specs.Counting.{count, accepted, namesOf, noNames, returned, Asking, askedAfter, grants, Open, noneOpen, asksNow, openAt, openAfter, GrantsOpen, openFrom}
 use Rattle.balance.specs.Fresh.{acceptedDeclaration, without}
@@ -47,7 +49,8 @@ right : (day : ℕ) (k : State) (last : Asking) (was : Open) (r : List ℕ) → 
 right day k last was r h d =
     record {
       tested = passes-of-ok day k h .tested;
-      never-1 = d .never-1;
+      never-1 = λ e. contra (taken-valid day k (passes-of-ok day k h .tested)) (refusals-numbered day k r .first e);
+      never-16 = λ e. refusals-numbered day k r .second e .1 (h .filed-ok);
       lost = λ i l. d .marked i l .lost;
       declared = d .declared;
       begun = d .begun;

@@ -17,15 +17,17 @@ use Rattle.lock.proofs.Bools.{byBool, byEq, contra, both}
 use Rattle.lock.proofs.Levels.{bolt-same, bolt-other}
 use Rattle.task.specs.State.{noTask}
 use Rattle.machine.specs.declared.State.{State}
+use Rattle.machine.specs.declared.Running.{Running}
 use Rattle.machine.specs.declared.Stepped.{Stepped}
-use Rattle.machine.specs.State.{taskAt, enabledAt, freshTask, nothing, withClock}
+use Rattle.machine.specs.State.{taskAt, enabledAt, freshTask, nothing, withClock, withRunning}
 use Rattle.machine.specs.Running.{runner}
 use Rattle.machine.specs.Sorts.{declares}
 use Rattle.machine.specs.Calls.{addTask, addSemaphore, addBolt, addInterrupt, declaration as declaredAs}
 use Rattle.machine.specs.Step.{refuse, declared, orRefuse, carryOut, step}
 use Rattle.machine.specs.Log.{AllOctets, isDeclaration, final, log}
 use Rattle.machine.specs.Invariants.{IsDay}
-use Rattle.machine.proofs.Facts.{StateOk, bounded-of, passes-of-ok}
+use Rattle.machine.proofs.Facts.{StateOk, passes-of-ok, ok-of-passes}
+use Rattle.machine.proofs.Taking.{nothing-passes}
 use Rattle.machine.proofs.Passed.{refusalOf, Passed, passed, as-mark, room-task, room-bolt, room-interrupt}
 use Rattle.machine.proofs.Opened.{opened-refused}
 use Rattle.machine.proofs.Cases.{done-number, declaration-cases, carried-by, stepOpened, step-on}
@@ -100,6 +102,9 @@ module _ (day : ℕ) (k : State) (h : StateOk day k) (y : Young k) (c : Call) wh
   young-declared p =
       declaration-cases (c .head .mark) c k Young (λ e. young-DT (as-mark e p)) (λ e. young-DS) (λ e. young-DB (as-mark e p)) (λ e. young-IT (as-mark e p)) (λ e. young-DC) y
 
+young-refiled : (d : State) (r : Running) → Young d → Young (withRunning r d)
+young-refiled d r y = record { instant = y .instant; unbegun = y .unbegun; tasks = y .tasks; bolts = y .bolts; enabled = y .enabled }
+
 -- ---- a record that is no accepted call
 
 -- It is refused, or an accepted declaration.
@@ -127,7 +132,7 @@ module _ (day : ℕ) (k : State) (h : StateOk day k) (s : List ℕ) (P : Read �
 module _ (day : ℕ) (isDay : IsDay day) where
   young-step : (k : State) → StateOk day k → Young k → (s : List ℕ) → not (accepted (step day k s .answer) && not (isDeclaration (opened s .answer))) ≡ true → Young (step day k s .state)
   young-step k h y s =
-      no-call day k h s (λ r z. Young (z .state)) (λ r n. unfold refuse in y) (λ d l p. unfold declared in young-declared day k h y (callWith d l) p)
+      no-call day k h s (λ r z. Young (z .state)) (λ r n. unfold refuse in y) (λ d l p. unfold declared in young-refiled _ (runner k) (young-declared day k h y (callWith d l) p))
 
   young-all : (rs : List (List ℕ)) (k : State) → StateOk day k → Young k → AllOctets rs → without acceptedCall (log day k rs) ≡ true → StateOk day (final day k rs) × Young (final day k rs)
   unfolding AllOctets without log final
@@ -139,18 +144,7 @@ module _ (day : ℕ) (isDay : IsDay day) where
   -- ---- nothing declared
 
   pub nothing-ok : StateOk day nothing
-  unfolding nothing
-  nothing-ok =
-      record {
-        tables = record { tasks = refl; places = refl; semaphores = refl; bolts = refl; enabled = refl };
-        now-ok = omega arith;
-        clock-ok = isDay .some;
-        counts-ok = record { tasks = omega arith; semaphores = omega arith; bolts = omega arith; interrupts = omega arith };
-        bounded = bounded-of _ _ (λ s l. absurd (not-suc-le-zero l)) (λ b l. absurd (not-suc-le-zero l));
-        tasks-ok = λ i l. absurd (not-suc-le-zero l);
-        places-ok = record { range = λ i l. absurd (not-suc-le-zero l); apart = λ i j l. absurd (not-suc-le-zero l) };
-        stuck = λ i l. absurd (not-suc-le-zero l);
-      }
+  nothing-ok = ok-of-passes day nothing (nothing-passes day isDay)
 
 nothing-young : Young nothing
 unfolding nothing

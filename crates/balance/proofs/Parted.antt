@@ -3,18 +3,22 @@ use mathlib.Core.Path.{_≡_, refl, ap, _∙_}
 use mathlib.Core.Bool.{Bool, true, false, not, _&&_}
 use mathlib.Core.List.{List, [], _∷_, _++_}
 use Prim.Native.Nat.{ℕ}
+use borrow.Author.Tests.{ne-eqb}
 use Rattle.record.specs.Reading.{opened}
-use Rattle.lock.proofs.Bools.{byBool, and-both, not-of-false}
+use Rattle.lock.proofs.Bools.{byBool, contra, and-both, not-of-false}
 use Rattle.machine.specs.declared.State.{State}
 use Rattle.machine.specs.State.{nothing}
 use Rattle.machine.specs.Step.{step}
 use Rattle.machine.specs.Log.{AllOctets, isDeclaration, Entry, final, log}
-use Rattle.machine.specs.Invariants.{IsDay}
+use Rattle.machine.specs.Invariants.{IsDay, Passes}
 use Rattle.machine.proofs.Rows.{log-append, final-append}
 use Rattle.machine.proofs.Facts.{StateOk}
-use Rattle.machine.proofs.Invariants.{step-ok}
+use Rattle.machine.proofs.Filing.{taken-valid, taken-filed}
+use Rattle.machine.proofs.Refused.{refusals-numbered}
+use Rattle.machine.proofs.Invariants.{step-ok, step-passes}
+use Rattle.machine.proofs.Taking.{nothing-passes}
 use Rattle.balance.specs.Counting.{accepted}
-use Rattle.balance.specs.Fresh.{acceptedDeclaration, acceptedCall, without}
+use Rattle.balance.specs.Fresh.{acceptedDeclaration, acceptedCall, turnedAway, without}
 use Rattle.balance.specs.Balance.{AllParted}
 use Rattle.balance.proofs.Balanced.{balance}
 use Rattle.balance.proofs.Fresh.{nothing-ok, declared-is-fresh}
@@ -76,6 +80,19 @@ module _ (day : ℕ) (isDay : IsDay day) where
         working-octets = p .working-octets;
       })
 
+  -- ---- no record of a list is refused with 1 or 16
+
+  not-away : (k : State) → Passes day k → (s : List ℕ) → not (turnedAway (record { bytes = s; answer = step day k s .answer })) ≡ true
+  not-away k p s =
+      let n = step day k s .answer .number in
+      let q = refusals-numbered day k s in
+      rw (ne-eqb n 1 (λ e. contra (taken-valid day k (p .tested)) (q .first e)), ne-eqb n 16 (λ e. q .second e .1 (taken-filed day k (p .tested))))
+
+  never-away : (rs : List (List ℕ)) (k : State) → Passes day k → AllOctets rs → without turnedAway (log day k rs) ≡ true
+  unfolding AllOctets without log
+  never-away [] k p o = refl
+  never-away (r ∷ rs) k p o = and-both (not-away k p r) (never-away rs (step day k r .state) (step-passes day isDay k p r (o .0)) (o .1))
+
 pub all-parted : AllParted
 all-parted day isDay rs o =
     let p = in-parts day isDay rs nothing (nothing-ok day isDay) o in
@@ -88,6 +105,7 @@ all-parted day isDay rs o =
       last = ap (final day nothing) (p .parts) ∙ final-append day nothing (p .declaring) (p .working);
       no-call = p .no-call;
       no-declaration = p .no-declaration;
+      never-turned-away = never-away day isDay rs nothing (nothing-passes day isDay) o;
       fresh = f;
       preset = presets-are-kept day isDay (p .declaring) (p .declaring-octets) (p .no-call);
       balanced = balance day isDay (final day nothing (p .declaring)) f (p .working) (p .working-octets) (p .no-declaration);

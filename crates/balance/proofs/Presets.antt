@@ -71,7 +71,7 @@ module _ (day : ℕ) (k : State) (h : StateOk day k) (vs : List ℕ) (y : Preset
   preset-step s =
       no-call day k h s (λ r z. Preset (vs ++ cond (accepted (z .answer)) (presetIn r) []) (z .state))
       (λ r n. unfold refuse in rw (ne-eqb (suc n) 0 (λ z. omega arith)) (same k refl refl))
-      (λ d l p. unfold declared in by-mark (callWith d l) p)
+      (λ d l p. unfold declared in let q = by-mark (callWith d l) p in record { count = q .count; value = q .value })
 
 preset-all : (day : ℕ) → IsDay day → (rs : List (List ℕ)) (k : State) (vs : List ℕ) → StateOk day k → Preset vs k → AllOctets rs
     → without acceptedCall (log day k rs) ≡ true → Preset (vs ++ presets (log day k rs)) (final day k rs)

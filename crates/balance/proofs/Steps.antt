@@ -36,7 +36,7 @@ use Rattle.machine.proofs.SetLaws.{has-empty, pow-pos}
 use Rattle.machine.proofs.Facts.{StateOk, passes-of-ok}
 use Rattle.machine.proofs.Passed.{refusalOf, passed}
 use Rattle.machine.proofs.Opened.{opened-refused, opened-priority}
-use Rattle.machine.proofs.Cases.{late-refusal, done-number, carried-by, stepOpened, step-on}
+use Rattle.machine.proofs.Cases.{done-number, carried-by, stepOpened, step-on}
 use Rattle.machine.proofs.Done.{Did, role, call-done}
 use Rattle.machine.proofs.Keeping.{unserved-ok, did-ok, finish-ok}
 use Rattle.balance.specs.Counting.{accepted, asks, gives, namesIn, Asking, counts, issuedBy, grantsIn, Open, isIssuer, stays, isIn}
@@ -74,7 +74,6 @@ pub record StepBooks (day : ℕ) (k : State) (last : Asking) (was : Open) (r : R
   pub marked : (i : ℕ) → i < k .counts .tasks → Marked (accepted (s .answer) && prevents r i) (taskAt (k .tasks) i) (taskAt (s .state .tasks) i) (hasIn i (s .answer .sets))
   pub values : (v : Wait) (x : ℕ) → Law v (level v (s .state .locks) x) (grantsIn (k .counts .tasks) v x (lastThen (s .answer) r l (runner k) last) (s .answer .sets .granted)) (bit (accepted (s .answer)) * counts v x (namesIn gives r l)) (level v (k .locks) x)
   pub grants : (i : ℕ) → i < k .counts .tasks → has i (s .answer .sets .granted) ≡ 1 → openNow (s .answer) r l (runner k) was i ≡ true
-  pub never-1 : s .answer .number ≢ 1
   pub begun : s .state .begun ≡ (k .begun || accepted (s .answer))
   pub declared : Declared (k .counts .tasks) (s .answer .sets)
 
@@ -87,9 +86,9 @@ module _ (day : ℕ) (isDay : IsDay day) (k : State) (last : Asking) (was : Open
   abbrev n : ℕ
   n = k .counts .tasks
 
-  refused-books : (r : Read) (l : List ℕ) (m : ℕ) → suc m ≢ 1 → StepBooks day k last was r l (refuse k (suc m) (runner k))
+  refused-books : (r : Read) (l : List ℕ) (m : ℕ) → StepBooks day k last was r l (refuse k (suc m) (runner k))
   unfolding refuse
-  refused-books r l m ne =
+  refused-books r l m =
       let no : eqb (suc m) 0 ≡ false = ne-eqb (suc m) 0 (λ z. omega arith) in
       record {
         next =
@@ -104,7 +103,6 @@ module _ (day : ℕ) (isDay : IsDay day) (k : State) (last : Asking) (was : Open
         marked = λ i q. rw no (granted-marked (taskAt (k .tasks) i) i 0);
         values = λ v x. rw (no, no-grants n v x last) (zeros v x (counts v x (namesIn gives r l)));
         grants = λ i q e. absurd (omega (arith, has-empty i));
-        never-1 = ne;
         begun = rw no (simp tests);
         declared = only-granted n 0 (pow-pos n);
       }
@@ -154,7 +152,6 @@ module _ (day : ℕ) (isDay : IsDay day) (k : State) (last : Asking) (was : Open
               let one : 1 * counts v x (record { kind = r .gives; list = named c }) ≡ counts v x (record { kind = r .gives; list = named c }) = omega arith in
               rw one z;
           grants = λ i q e. rw (h .opens i q) (s .asked i q e);
-          never-1 = λ z. omega arith;
           begun = simp tests;
           declared = regranted n (w .sets) _ (b .declared) (s .granted-lt);
         }
@@ -163,7 +160,7 @@ module _ (day : ℕ) (isDay : IsDay day) (k : State) (last : Asking) (was : Open
     carry-books b o = let by = carried-by day k (callWith d l) in rw by (go (refusalOf day k (callWith d l)) refl (rw by at o))
       where
         go : (m : ℕ) → refusalOf day k (callWith d l) ≡ m → not (accepted (orRefuse k m (carryOut day k (callWith d l)) .answer) && declares (d .mark)) ≡ true → StepBooks day k last was (Accepted d) l (orRefuse k m (carryOut day k (callWith d l)))
-        go (suc m) e q = refused-books (Accepted d) l m (λ z. late-refusal day k (callWith d l) .no1 (e ∙ z))
+        go (suc m) e q = refused-books (Accepted d) l m
         go zero e q =
             byBool (declares (d .mark)) (λ z. contra q (rw (done-number day k (callWith d l), z)))
             (λ z. unfold carryOut in rw z
@@ -172,7 +169,7 @@ module _ (day : ℕ) (isDay : IsDay day) (k : State) (last : Asking) (was : Open
   -- A record that reads as r with the list l.
   read-books : (r : Read) (l : List ℕ) → ((m : ℕ) → r ≡ Refused m → m ≡ 2) → ((d : Head) → r ≡ Accepted d → d .priority < 256)
       → not (accepted (stepOpened day k r l .answer) && isDeclaration r) ≡ true → StepBooks day k last was r l (stepOpened day k r l)
-  read-books (Refused m) l two byte o = let e = two m refl in rw e (refused-books (Refused 2) l 1 (λ z. omega arith))
+  read-books (Refused m) l two byte o = let e = two m refl in rw e (refused-books (Refused 2) l 1)
   read-books (Accepted d) l two byte o = carry-books d l (byte d refl) o
 
   pub step-books : (s : List ℕ) → Octets s → not (accepted (step day k s .answer) && isDeclaration (opened s .answer)) ≡ true

@@ -17,7 +17,7 @@ use Rattle.task.specs.State.{isKept}
 use Rattle.machine.specs.Sets.{Set, Due, Started, Ended, Lost, has, members}
 use Rattle.machine.specs.State.{taskAt, nothing}
 use Rattle.machine.specs.Granting.{servable}
-use Rattle.machine.specs.Test.{valid}
+use Rattle.machine.specs.Test.{kernelRefusal}
 use Rattle.machine.specs.Step.{step}
 use Rattle.machine.specs.Log.{AllOctets, Entry, final, log}
 use Rattle.machine.specs.Invariants.{IsDay}
@@ -25,7 +25,7 @@ use Rattle.machine.specs.declared.State.{State}
 use Rattle.machine.specs.declared.Answer.{Answer}
 use Rattle.machine.specs.declared.Running.the-variants.{Idle}
 use Rattle.balance.specs.Counting.{count, accepted, returned, granted, noneOpen, GrantsOpen, openFrom}
-use Rattle.balance.specs.Fresh.{Fresh, acceptedDeclaration, acceptedCall, without, presets, Preset}
+use Rattle.balance.specs.Fresh.{Fresh, acceptedDeclaration, acceptedCall, turnedAway, without, presets, Preset}
 
 -- ---- sums over the log, from the fresh kernel k to the last kernel z
 
@@ -71,9 +71,10 @@ loses k r a i =
     && ((eqb (has i (a .sets .due)) 1 && taskAt (k .tasks) i .alive) || (accepted a && prevents (opened r .answer) i))
 
 pub record RightStep (day : ℕ) (k : State) (r : List ℕ) (a : Answer) (z : State) : Type 0 where
-  -- every kernel on the way passes the kernel test, so refusal 1 never arises
-  pub tested : valid day k ≡ true
+  -- every kernel on the way passes the kernel test with the rule's task on file, so refusals 1 and 16 never arise
+  pub tested : kernelRefusal day k ≡ 0
   pub never-1 : a .number ≢ 1
+  pub never-16 : a .number ≢ 16
   -- lost exactly when the rule says so
   pub lost : (i : ℕ) → i < k .counts .tasks → has i (a .sets .lost) ≡ bit (loses k r a i)
   -- sets name declared tasks only
@@ -91,7 +92,7 @@ AtEachRecord day k (r ∷ rs) =
 pub record Balanced (day : ℕ) (k : State) (rs : List (List ℕ)) : Type 0 where
   pub sums : Sums k (log day k rs) (final day k rs)
   pub each : AtEachRecord day k rs
-  pub last-tested : valid day (final day k rs) ≡ true
+  pub last-tested : kernelRefusal day (final day k rs) ≡ 0
 
 -- For every fresh kernel and every list of records, whatever their bytes, without an accepted declaration among them.
 abbrev pub Balance : Type 0
@@ -110,6 +111,8 @@ pub record Parted (day : ℕ) (rs : List (List ℕ)) : Type 0 where
   pub last : final day nothing rs ≡ final day (final day nothing declaring) working
   pub no-call : without acceptedCall (log day nothing declaring) ≡ true
   pub no-declaration : without acceptedDeclaration (log day (final day nothing declaring) working) ≡ true
+  -- no record is refused with 1 or 16
+  pub never-turned-away : without turnedAway (log day nothing rs) ≡ true
   -- the first leaves a fresh kernel with its presets
   pub fresh : Fresh day (final day nothing declaring)
   pub preset : Preset (presets (log day nothing declaring)) (final day nothing declaring)

@@ -1,8 +1,9 @@
 -- Fresh kernels: nothing declared, or accepted declarations only.
 use mathlib.Core.Path.{_≡_}
-use mathlib.Core.Bool.{Bool, true, false, not, cond, _&&_}
+use mathlib.Core.Bool.{Bool, true, false, not, cond, _&&_, _||_}
 use mathlib.Core.List.{List, [], _∷_, _++_}
 use Prim.Native.Nat.{ℕ, _<_}
+use lib.Dec.{eqb}
 use lib.ListN.{length, getD}
 use Rattle.layout.specs.Marks.{is}
 use Rattle.record.specs.Reading.{opened}
@@ -12,7 +13,7 @@ use Rattle.record.specs.declared.Read.the-variants.{Refused, Accepted}
 use Rattle.lock.specs.Locks.{emptyBolt, boltAt, level}
 use Rattle.lock.specs.declared.Wait.the-variants.{Request}
 use Rattle.machine.specs.State.{taskAt, enabledAt, freshTask, nothing}
-use Rattle.machine.specs.Test.{valid}
+use Rattle.machine.specs.Test.{kernelRefusal}
 use Rattle.machine.specs.Log.{AllOctets, isDeclaration, Entry, final, log}
 use Rattle.machine.specs.Invariants.{IsDay, Tables}
 use Rattle.machine.specs.declared.State.{State}
@@ -21,7 +22,7 @@ use Rattle.balance.specs.Counting.{accepted}
 -- A fresh kernel.
 pub record Fresh (day : ℕ) (k : State) : Type 0 where
   pub tables : Tables k
-  pub tested : valid day k ≡ true
+  pub tested : kernelRefusal day k ≡ 0
   pub instant : k .now .0 ≡ 0
   pub unbegun : k .begun ≡ false
   pub tasks : (i : ℕ) → i < k .counts .tasks → taskAt (k .tasks) i ≡ freshTask (taskAt (k .tasks) i .declared)
@@ -33,6 +34,10 @@ acceptedDeclaration e = accepted (e .answer) && isDeclaration (opened (e .bytes)
 
 abbrev pub acceptedCall : Entry → Bool
 acceptedCall e = accepted (e .answer) && not (isDeclaration (opened (e .bytes) .answer))
+
+-- Refused with 1 or 16.
+abbrev pub turnedAway : Entry → Bool
+turnedAway e = eqb (e .answer .number) 1 || eqb (e .answer .number) 16
 
 -- No entry passes a test.
 unfoldable pub without : (Entry → Bool) → List Entry → Bool

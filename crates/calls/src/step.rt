@@ -4,7 +4,7 @@ ghost use mathlib.Core.Bool.{true};
 ghost use Rattle.calendar.specs.Limits.{day};
 ghost use Rattle.record.specs.Reading.{numberOf, callWith};
 ghost use Rattle.machine.specs.Running.{runner};
-ghost use Rattle.machine.specs.Test.{valid};
+ghost use Rattle.machine.specs.Test.{valid, kernelRefusal};
 ghost use Rattle.machine.specs.Sorts.{sortOf, placeOf};
 ghost use Rattle.machine.specs.Refusals.{formalRefusal};
 ghost use Rattle.machine.specs.Step.{settle, step};
@@ -41,6 +41,7 @@ use serving::ends::no_sets;
 use sets::nobody_turned;
 use sets::put_marks;
 use ticks::ticked;
+use urgency::file::kernel_refusal;
 
 // A call about task i and the locks: what refuses it, or what it does.
 fn done_to(mut k: State, i: usize, sort: Sort, h: Head, list: Numbers, r: Running) -> Stepped
@@ -82,12 +83,13 @@ fn number_of(a: Read) -> u8
     }
 }
 
-// The step on a kernel that passes the test, r its running task.
-pub fn step_on(k: State, s: &[u8], r: Running) -> Stepped
-    requires { ⌜ valid day k ≡ true ⌝ }
-    requires { ⌜ r ≡ runner k ⌝ }
+// The step on a kernel that is refused with neither 1 nor 16: its running task is on file.
+pub fn step_on(k: State, s: &[u8]) -> Stepped
+    requires { ⌜ kernelRefusal day k ≡ 0 ⌝ }
     ensures { λ z. ⌜ z ≡ step day k (now (s .entry)) ⌝ }
 {
+    let file = k.file;
+    let r = file.running;
     if is_tick(s) {
         return ticked(k, r);
     }
@@ -121,15 +123,18 @@ pub fn step(k: State, s: &[u8]) -> Stepped
 {
     let v = survey(k);
     let now = k.now;
-    let r = v.runner;
-    if !v.ok {
-        return answered(k, 1, Running::Idle);
+    let file = k.file;
+    let stored = file.running;
+    let found = v.runner;
+    let refusal = kernel_refusal(v.ok, stored, found);
+    if refusal != 0 {
+        return answered(k, refusal, Running::Idle);
     }
     let next = v.next;
     if now.0 + 1 < next.up_to(LAST_INSTANT + 1) {
         if is_tick(s) {
-            return quiet_tick(k, r);
+            return quiet_tick(k);
         }
     }
-    step_on(k, s, r)
+    step_on(k, s)
 }

@@ -28,7 +28,7 @@ use Rattle.machine.specs.declared.Sort.the-variants.{Declaration, OneTask, TheR
 use Rattle.machine.specs.declared.Stepped.{Stepped}
 use Rattle.machine.specs.State.{mostTasks, taskAt}
 use Rattle.machine.specs.Running.{runner}
-use Rattle.machine.specs.Test.{valid}
+use Rattle.machine.specs.Test.{valid, kernelRefusal}
 use Rattle.machine.specs.Sorts.{sortOf, declaring, declares, placeOf, runnerAt}
 use Rattle.machine.specs.Refusals.{listDeclared, declaredBy, formalRefusal, admitted, refusalBy, stateRefusal}
 use Rattle.machine.specs.Calls.{declaration, tick, interruptBy, workBy}
@@ -151,11 +151,13 @@ module _ (day : ℕ) (k : State) (h : Head) (l : List ℕ) where
 -- ---- the step
 
 module _ (day : ℕ) (k : State) (s : List ℕ) where
-  pub step-1 : valid day k ≡ false → refuse k 1 Idle ≡ step day k s
+  -- A kernel is turned away with n.
+  pub step-away : {n : ℕ} → n ≡ kernelRefusal day k → (n ≡ 0 → ⊥) → refuse k n Idle ≡ step day k s
   unfolding step
-  step-1 e = rw e
+  step-away {n = zero} e z = absurd (z refl)
+  step-away {n = suc n} e z = rw (← e)
 
-  module _ (v : valid day k ≡ true) {r : Reading} (o : r ≡ admitted day (k .counts) (k .begun) s) where
+  module _ (v : kernelRefusal day k ≡ 0) {r : Reading} (o : r ≡ admitted day (k .counts) (k .begun) s) where
     pub step-refused : {n : ℕ} {x : Running} → r .answer ≡ Refused n → x ≡ runner k → refuse k n x ≡ step day k s
     unfolding step
     step-refused a q = rw (v, ← o, a, q)

@@ -10,6 +10,8 @@ use lock::Wait;
 use machine::Counts;
 use machine::MOST_INTERRUPTS;
 use machine::MOST_TASKS;
+use machine::OnFile;
+use machine::Running;
 use machine::State;
 use schedule::Alarm;
 use schedule::Schedule;
@@ -62,6 +64,9 @@ pub fn fresh() -> State
         bolts: 0,
         interrupts: 0,
     };
+    let file = OnFile {
+        running: Running::Idle,
+    };
     State {
         tasks: [task; MOST_TASKS as usize],
         places: [0; MOST_TASKS as usize],
@@ -71,5 +76,6 @@ pub fn fresh() -> State
         clock: 0,
         now: Instant(0),
         begun: false,
+        file,
     }
 }

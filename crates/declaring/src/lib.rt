@@ -8,14 +8,15 @@ ghost use Rattle.calendar.specs.Limits.{day};
 ghost use Rattle.record.specs.Reading.{callWith};
 ghost use Rattle.machine.specs.Refusals.{formalRefusal};
 ghost use Rattle.machine.specs.Running.{runner};
-ghost use Rattle.machine.specs.State.{mostTasks, mostSemaphores, mostBolts, mostInterrupts, withClock};
+ghost use Rattle.machine.specs.State.{mostTasks, mostSemaphores, mostBolts, mostInterrupts, withClock, withRunning};
 ghost use Rattle.machine.specs.Calls.{addTask, addSemaphore, addBolt, addInterrupt, declaration};
-ghost use Rattle.machine.specs.Step.{declared};
+ghost use Rattle.machine.specs.Step.{declared, refuse};
 use crate::fresh::empty_bolt;
 use crate::fresh::fresh_task;
 use layout::Head;
 use layout::Mark;
 use machine::Counts;
+use machine::OnFile;
 use machine::Running;
 use machine::State;
 use machine::Stepped;
@@ -84,6 +85,15 @@ pub(crate) fn set_clock(k: State, t: u32) -> State
     next
 }
 
+// A declaration leaves this kernel: r runs on, and is put on file.
+fn filed(mut k: State, r: Running) -> Stepped
+    ensures { λ s. ⌜ s ≡ refuse (withRunning r k) 0 r ⌝ }
+{
+    let file = OnFile { running: r };
+    k.file = file;
+    answered(k, 0, r)
+}
+
 // An accepted declaration; the answer's sets are empty.
 pub fn declared(k: State, h: Head, r: Running) -> Stepped
     requires { ⌜ r ≡ runner k ⌝ }
@@ -92,11 +102,11 @@ pub fn declared(k: State, h: Head, r: Running) -> Stepped
 {
     let mark = h.mark;
     match mark {
-        Mark::DT => answered(add_task(k, h.priority), 0, r),
-        Mark::DS => answered(add_semaphore(k, (h.first % 65536) as u16), 0, r),
-        Mark::DB => answered(add_bolt(k), 0, r),
-        Mark::IT => answered(add_interrupt(k), 0, r),
-        Mark::DC => answered(set_clock(k, h.first), 0, r),
-        _ => answered(k, 0, r),
+        Mark::DT => filed(add_task(k, h.priority), r),
+        Mark::DS => filed(add_semaphore(k, (h.first % 65536) as u16), r),
+        Mark::DB => filed(add_bolt(k), r),
+        Mark::IT => filed(add_interrupt(k), r),
+        Mark::DC => filed(set_clock(k, h.first), r),
+        _ => filed(k, r),
     }
 }

@@ -139,6 +139,7 @@ delivered a m us h p s =
       parts = s .parts;
       no-call = rw entries (p .no-call);
       no-declaration = rw worked (p .no-declaration);
+      never-turned-away = rw (as-log us a h, m) (p .never-turned-away);
       machine = code-is-machine a us h;
       fresh = rw made (p .fresh);
       preset = rw (entries, made) (p .preset);

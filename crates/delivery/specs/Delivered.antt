@@ -10,9 +10,9 @@ use denote.Ref.{RefT}
 use Rattle.calendar.specs.Limits.{day}
 use Rattle.layout.specs.Fields.{FourPlaces, bytesOf}
 use Rattle.layout.specs.declared.Call.{Call}
-use Rattle.machine.specs.Test.{valid}
+use Rattle.machine.specs.Test.{kernelRefusal}
 use Rattle.machine.specs.Log.{AllOctets, Entry, final, log}
-use Rattle.balance.specs.Fresh.{Fresh, acceptedDeclaration, acceptedCall, without, presets, Preset}
+use Rattle.balance.specs.Fresh.{Fresh, acceptedDeclaration, acceptedCall, turnedAway, without, presets, Preset}
 use Rattle.balance.specs.Balance.{Sums, RightStep}
 use Rattle.kernel.specs.declared.Kernel.{Kernel}
 use Rattle.kernel.specs.declared.Reply.{Reply}
@@ -97,7 +97,7 @@ pub record CodeBalanced (a : Kernel) (us : List Use) : Type 0 where
   pub machine : AsMachine a us
   pub sums : Sums (a .state) (answers us) (last a us .state)
   pub each : AtEachUse a us
-  pub last-tested : valid day (last a us .state) ≡ true
+  pub last-tested : kernelRefusal day (last a us .state) ≡ 0
 
 -- From any kernel that is fresh, without an accepted declaration.
 abbrev pub CodeBalances : Type 0
@@ -112,6 +112,8 @@ pub record Delivered (a : Kernel) (us : List Use) : Type 0 where
   pub parts : us ≡ declaring ++ working
   pub no-call : without acceptedCall (answers declaring) ≡ true
   pub no-declaration : without acceptedDeclaration (answers working) ≡ true
+  -- no use is refused with 1 or 16
+  pub never-turned-away : without turnedAway (answers us) ≡ true
   pub machine : AsMachine a us
   pub fresh : Fresh day (last a declaring .state)
   pub preset : Preset (presets (answers declaring)) (last a declaring .state)

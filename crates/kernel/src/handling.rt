@@ -2,7 +2,6 @@
 ghost use mathlib.Core.Path.{_≡_};
 ghost use Rattle.calendar.specs.Limits.{day};
 ghost use Rattle.machine.specs.State.{nothing};
-ghost use Rattle.machine.specs.Running.{runner};
 ghost use Rattle.machine.specs.Step.{step, carry};
 ghost use Rattle.kernel.specs.Reply.{reply};
 use crate::Kernel;
@@ -13,7 +12,6 @@ use layout::Call;
 use layout::fields::bytes_of;
 use machine::Running;
 use machine::Stepped;
-use urgency::scan::running;
 
 // A step's next kernel and answer, as they are.
 fn replied(stepped: Stepped) -> Reply
@@ -33,11 +31,13 @@ impl Kernel {
         Kernel { state: fresh() }
     }
 
-    // The running task, or none.
+    // The running task on file, or none.
     pub fn running(self) -> Running
-        ensures { λ r. ⌜ r ≡ runner (self .state) ⌝ }
+        ensures { λ r. ⌜ r ≡ self .state .file .running ⌝ }
     {
-        running(self.state)
+        let state = self.state;
+        let file = state.file;
+        file.running
     }
 
     // The machine's step over bytes of any length.

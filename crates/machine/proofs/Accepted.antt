@@ -21,12 +21,13 @@ use Rattle.task.proofs.Firing.{leaves-on}
 use Rattle.machine.specs.declared.Change.{Change}
 use Rattle.machine.specs.declared.State.{State}
 use Rattle.machine.specs.declared.Sort.{Sort}
+use Rattle.machine.specs.declared.Stepped.{Stepped}
 use Rattle.machine.specs.State.{taskAt}
 use Rattle.machine.specs.Work.{Work, changed, everyTurn}
-use Rattle.machine.specs.Test.{valid}
+use Rattle.machine.specs.Test.{valid, kernelRefusal}
 use Rattle.machine.specs.Sorts.{sortOf, declaring, declares}
 use Rattle.machine.specs.Calls.{workBy}
-use Rattle.machine.specs.Step.{refuse, finish, orRefuse, carryOut, step}
+use Rattle.machine.specs.Step.{refuse, finish, orRefuse, orTurnAway, carryOut, step}
 use Rattle.machine.specs.Continuing.{SameButWait, ServingKeeps, Accepts, taskAfter}
 use Rattle.machine.proofs.Below.{all-at}
 use Rattle.machine.proofs.Passed.{parts, refusalOf}
@@ -109,9 +110,19 @@ module _ (day : ℕ) (k : State) (v : valid day k ≡ true) where
 
 -- ---- accepted calls
 
+-- What has number 0 isn't turned away.
+not-away : (k : State) (n : ℕ) (z : Stepped) → orTurnAway k n z .answer .number ≡ 0 → n ≡ 0
+unfolding refuse
+not-away k zero z e = refl
+not-away k (suc n) z e = e
+
 module _ (day : ℕ) (k : State) (s : List ℕ) (c : Call) (h : Accepts day k s c) where
+  pub accepts-taken : kernelRefusal day k ≡ 0
+  unfolding step
+  accepts-taken = not-away k (kernelRefusal day k) _ (h .number)
+
   step-by : step day k s ≡ orRefuse k (refusalOf day k c) (carryOut day k c)
-  step-by = step-on day k s (h .tested) ∙ rw (h .opens) (carried-by day k c)
+  step-by = step-on day k s accepts-taken ∙ rw (h .opens) (carried-by day k c)
 
   pub no-refusal : refusalOf day k c ≡ 0
   unfolding refuse

@@ -18,7 +18,7 @@ use Rattle.machine.specs.declared.State.{State}
 use Rattle.machine.specs.declared.Stepped.{Stepped}
 use Rattle.machine.specs.State.{mostTasks, taskAt, freshTask, placeAt}
 use Rattle.machine.specs.Running.{urgency, mostUrgent, runningOf, runner, mostPlaces}
-use Rattle.machine.specs.Test.{valid}
+use Rattle.machine.specs.Test.{valid, kernelRefusal}
 use Rattle.machine.specs.Refusals.{roomFor}
 use Rattle.machine.specs.Calls.{addTask, addSemaphore, addBolt, addInterrupt, declaration}
 use Rattle.machine.specs.Work.{Work}
@@ -27,6 +27,7 @@ use Rattle.machine.specs.Promises.{AnswersRunner, AnswersFirst, AreBytes
 use Rattle.machine.proofs.Urgency.{runner-first, scan-same}
 use Rattle.machine.proofs.Passed.{passed, room-task, tested, parts}
 use Rattle.machine.proofs.Cases.{out-cases, declaration-cases, step-cases}
+use Rattle.machine.proofs.Filing.{taken-valid, taken-filed}
 use Rattle.machine.proofs.Places.{apart-of, moved-below}
 
 -- A task that was just declared isn't runnable, nor is one beyond the table.
@@ -36,7 +37,7 @@ fresh-rests ts n p =
     byBool (ltb n (length ts)) (λ e. rw (getD-set-same ts n _ noTask (ltb-true n (length ts) e)))
     (λ e. let l = ltb-false n (length ts) e in rw (set-out ts n _ l, List·getD-eq-default ts noTask l))
 
-runner-added : (k : State) (p : ℕ) → runner (addTask p k) ≡ runner k
+pub runner-added : (k : State) (p : ℕ) → runner (addTask p k) ≡ runner k
 unfolding addTask runningOf mostUrgent urgency
 runner-added k p =
     let n = k .counts .tasks in
@@ -80,11 +81,18 @@ module _ (day : ℕ) (k : State) (l : k .counts .tasks ≤ mostTasks) (b : AreBy
   right-out : (c : Call) → roomFor (c .head .mark) (k .counts) ≡ true → Right (carryOut day k c)
   right-out c r = out-cases day k c Right (λ e. right-declaration (c .head .mark) c r) (λ e. right-finish _)
 
-right-step : (day : ℕ) (k : State) (s : List ℕ) → valid day k ≡ true → Right (step day k s)
-right-step day k s v =
+-- The places of a kernel that passes the kernel test.
+pub tested-bytes : (day : ℕ) (k : State) → valid day k ≡ true → AreBytes (k .counts .tasks) (k .places)
+tested-bytes day k v i h =
     let l = tested day k v .fits .tasks in
-    let b : AreBytes (k .counts .tasks) (k .places) = λ i h. let z = apart-of _ _ (parts day k v .places) .range i h in omega arith in
-    step-cases day k Right (λ e. contra v e) (λ e n p q. right-refuse day k l b n)
+    let z = apart-of _ _ (parts day k v .places) .range i h in omega arith
+
+right-step : (day : ℕ) (k : State) (s : List ℕ) → kernelRefusal day k ≡ 0 → Right (step day k s)
+right-step day k s t =
+    let v = taken-valid day k t in
+    let l = tested day k v .fits .tasks in
+    let b = tested-bytes day k v in
+    step-cases day k Right (λ e. contra v e) (λ e m. absurd (m (taken-filed day k t))) (λ e n p q. right-refuse day k l b n)
     (λ e c r. right-out day k l b c (passed day k c r .formal .room)) s
 
 pub answers-runner : AnswersRunner

@@ -12,28 +12,32 @@ use Rattle.layout.specs.declared.Call.{Call}
 use Rattle.lock.specs.Locks.{emptyBolt}
 use Rattle.lock.specs.declared.Locks.{Locks}
 use Rattle.lock.proofs.Bools.{byBool}
+use Rattle.record.specs.Reading.{opened}
 use Rattle.lock.proofs.Tables.{Like, like-add}
 use Rattle.lock.proofs.Alike.{Alike, Seen}
 use Rattle.task.specs.State.{noTask}
 use Rattle.task.specs.declared.Task.{Task}
 use Rattle.machine.specs.declared.Counts.{Counts}
 use Rattle.machine.specs.declared.State.{State}
-use Rattle.machine.specs.State.{mostTasks, mostSemaphores, mostBolts, mostInterrupts, freshTask, withState, withClock, withPlaces}
+use Rattle.machine.specs.declared.Running.{Running}
+use Rattle.machine.specs.State.{mostTasks, mostSemaphores, mostBolts, mostInterrupts, freshTask, withState, withClock, withPlaces, withRunning}
 use Rattle.machine.specs.Running.{runner}
 use Rattle.machine.specs.Sorts.{sortOf, declares}
 use Rattle.machine.specs.Work.{Work}
 use Rattle.machine.specs.Serving.{Served, serve}
-use Rattle.machine.specs.Test.{valid}
+use Rattle.machine.specs.Test.{kernelRefusal}
 use Rattle.machine.specs.Refusals.{roomFor}
 use Rattle.machine.specs.Calls.{addTask, addSemaphore, addBolt, addInterrupt, declaration}
 use Rattle.machine.specs.declared.Sets.{Sets}
 use Rattle.machine.specs.Sets.{withGranted}
-use Rattle.machine.specs.Step.{refuse, finish, declared, orRefuse, carryOut, carryOn, step}
+use Rattle.machine.specs.Step.{refuse, finish, declared, orRefuse, orTurnAway, carryOut, carryOn, step}
 use Rattle.machine.specs.Log.{log}
+use Rattle.machine.specs.Invariants.{Tables}
 use Rattle.machine.specs.Beyond.{Agree, Match, StepsAgree, LogsAgree}
+use Rattle.machine.proofs.Filing.{taken-valid}
 use Rattle.machine.proofs.Passed.{refusalOf, unrefused, Passed, passed, Fits, Tested, tested, room-task, room-semaphore, room-bolt, room-interrupt}
 use Rattle.machine.proofs.Cases.{opened-cases, carried-by, stepOpened, read-opened}
-use Rattle.machine.proofs.Looks.{running-same, valid-same, runner-same, refusal-same}
+use Rattle.machine.proofs.Looks.{running-same, runner-same, kernel-same, refusal-same}
 use Rattle.machine.proofs.Pairs.{Pair, serve-pair}
 use Rattle.machine.proofs.WorkPairs.{WorkPair, work-pair}
 use Rattle.machine.specs.Places.{event, moved}
@@ -50,6 +54,7 @@ alike-agree k ts ps r is a s b c =
       clock = refl;
       now = refl;
       begun = refl;
+      file = refl;
       tasks = a .below;
       places = s .below;
       semaphores = b .semaphores .below;
@@ -58,6 +63,27 @@ alike-agree k ts ps r is a s b c =
       tables = record { tasks = a .long; places = s .long; semaphores = b .semaphores .long; bolts = b .bolts .long; enabled = c .long };
       tables′ = record { tasks = a .long′; places = s .long′; semaphores = b .semaphores .long′; bolts = b .bolts .long′; enabled = c .long′ };
     }
+
+-- With the same task on file.
+refiled-agree : (d d′ : State) → Agree d d′ → (x y : Running) → x ≡ y → Agree (withRunning x d) (withRunning y d′)
+refiled-agree d d′ b x y e =
+    record {
+      counts = b .counts;
+      clock = b .clock;
+      now = b .now;
+      begun = b .begun;
+      file = ap (λ (r : Running). record { running = r }) e;
+      tasks = b .tasks;
+      places = b .places;
+      semaphores = b .semaphores;
+      bolts = b .bolts;
+      enabled = b .enabled;
+      tables = tables-refiled d (b .tables) x;
+      tables′ = tables-refiled d′ (b .tables′) y;
+    }
+  where
+    tables-refiled : (d : State) → Tables d → (x : Running) → Tables (withRunning x d)
+    tables-refiled d t x = record { tasks = t .tasks; places = t .places; semaphores = t .semaphores; bolts = t .bolts; enabled = t .enabled }
 
 abbrev served : Work → Served
 served w = record { tasks = w .tasks; locks = w .locks; granted = w .sets .granted }
@@ -97,7 +123,7 @@ module _ (day : ℕ) (k : State) (ts : List Task) (ps : List ℕ) (r : Locks) (i
 
   declared-match : (d d′ : State) → Agree d d′ → Match (declared k d) (declared k′ d′)
   unfolding declared
-  declared-match d d′ b = record { answer = rw same-runner; state = b }
+  declared-match d d′ b = record { answer = rw same-runner; state = refiled-agree d d′ b (runner k) (runner k′) same-runner }
 
   module _ (f : Fits n) where
     finish-match : (w w′ : Work) → WorkPair n w w′ → Match (finish k w) (finish k′ w′)
@@ -116,7 +142,7 @@ module _ (day : ℕ) (k : State) (ts : List Task) (ps : List ℕ) (r : Locks) (i
             running = e i;
             sets = withGranted (g i) (q .sets i);
           };
-          state = rw (← q .now) (alike-agree (finish k w .state) _ _ _ _ (p .tasks) m (p .locks) (q .enabled));
+          state = rw (← q .now, ← e) (alike-agree (finish k w .state) _ _ _ _ (p .tasks) m (p .locks) (q .enabled));
         }
 
     -- ---- declarations
@@ -176,12 +202,14 @@ module _ (day : ℕ) (k : State) (ts : List Task) (ps : List ℕ) (r : Locks) (i
 
   step-match : (s : List ℕ) → Match (step day k s) (step day k′ s)
   unfolding step
-  step-match s =
-      rw (← valid-same k ts ps r is (a .tasks) (a .places) sees day, read-opened day k s, read-opened day k′ s)
-      (byBool (valid day k)
-      (λ v. let t = tested day k v in rw v
-      (opened-cases s (λ o. Match (stepOpened day k (o .answer) (o .list)) (stepOpened day k′ (o .answer) (o .list))) (refuse-match 2) (on-match (t .fits) t)))
-      (λ v. rw v (unfold refuse in record { answer = refl; state = a })))
+  step-match s = rw (← kernel-same k ts ps r is (a .tasks) (a .places) sees day, read-opened day k s, read-opened day k′ s) (go (kernelRefusal day k) refl)
+    where
+      go : (m : ℕ) → kernelRefusal day k ≡ m
+          → Match (orTurnAway k m (stepOpened day k (opened s .answer) (opened s .list))) (orTurnAway k′ m (stepOpened day k′ (opened s .answer) (opened s .list)))
+      go zero v =
+          let t = tested day k (taken-valid day k v) in
+          opened-cases s (λ o. Match (stepOpened day k (o .answer) (o .list)) (stepOpened day k′ (o .answer) (o .list))) (refuse-match 2) (on-match (t .fits) t)
+      go (suc m) v = unfold refuse in record { answer = refl; state = a }
 
 -- A kernel that agrees with k is k with other tables.
 pub steps-agree : StepsAgree
@@ -195,6 +223,7 @@ steps-agree day k k′ a s =
       clock = a .clock i;
       now = a .now i;
       begun = a .begun i;
+      file = a .file i;
     } in
     subst (λ (z : State). Match (step day k s) (step day z s)) e
     (step-match day k (k′ .tasks) (k′ .places) (k′ .locks) (k′ .enabled) (subst (λ (z : State). Agree k z) (sym e) a) s)

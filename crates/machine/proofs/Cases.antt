@@ -1,4 +1,4 @@
--- Every step is refusal 1, a refusal 2 to 15, or what an accepted declaration or call does.
+-- Every step is refusal 1 or 16, a refusal 2 to 15, or what an accepted declaration or call does.
 use mathlib.Core.Path.{_≡_, refl}
 use mathlib.Core.Logic.{_≢_}
 use mathlib.Core.Bool.{Bool, true, false, not, _&&_, _||_}
@@ -26,7 +26,7 @@ use Rattle.lock.specs.Locks.{waiting, every, taken}
 use Rattle.lock.specs.declared.Locks.{Locks}
 use Rattle.lock.specs.declared.Wait.{Wait}
 use Rattle.lock.specs.declared.Wait.the-variants.{Nothing, Request, Reserve, Enter}
-use Rattle.lock.proofs.Bools.{byBool}
+use Rattle.lock.proofs.Bools.{byBool, contra}
 use Rattle.task.specs.State.{unheld, suspended}
 use Rattle.task.specs.declared.Task.{Task}
 use Rattle.machine.specs.declared.State.{State}
@@ -35,11 +35,12 @@ use Rattle.machine.specs.declared.Running.the-variants.{Idle}
 use Rattle.machine.specs.declared.Stepped.{Stepped}
 use Rattle.machine.specs.State.{withClock}
 use Rattle.machine.specs.Running.{runner, someone}
-use Rattle.machine.specs.Test.{valid}
+use Rattle.machine.specs.Test.{valid, filed, kernelRefusal}
 use Rattle.machine.specs.Sorts.{sortOf, declares, needsRunner, givenKind}
 use Rattle.machine.specs.Refusals.{declaredIn, roomFor, formalRefusal, admittedIf, admitted, unreturnable, isContinue, refusalBy, stateRefusal}
 use Rattle.machine.specs.Calls.{addTask, addSemaphore, addBolt, addInterrupt, declaration, workOf}
-use Rattle.machine.specs.Step.{refuse, finish, declared, orRefuse, carryOut, settle, carryOn, stepRead, step}
+use Rattle.machine.specs.Step.{refuse, finish, declared, orRefuse, orTurnAway, carryOut, settle, carryOn, carry, stepRead, step}
+use Rattle.machine.proofs.Filing.{filed-from}
 use Rattle.machine.proofs.Passed.{refusalOf}
 
 -- ---- bytes
@@ -162,23 +163,41 @@ read-opened day k s =
     go c zero = refl
     go c (suc n) = refl
 
-pub step-on : (day : ℕ) (k : State) (s : List ℕ) → valid day k ≡ true → step day k s ≡ stepOpened day k (opened s .answer) (opened s .list)
+pub step-on : (day : ℕ) (k : State) (s : List ℕ) → kernelRefusal day k ≡ 0 → step day k s ≡ stepOpened day k (opened s .answer) (opened s .list)
 unfolding step
 step-on day k s e = rw e (read-opened day k s)
 
+-- A kernel is refused with 1, with 16, or with neither.
+pub kernel-cases : (day : ℕ) (k : State) (P : ℕ → Type 0)
+    → (valid day k ≡ false → P 1) → (valid day k ≡ true → k .file .running ≢ runner k → P 16) → (kernelRefusal day k ≡ 0 → P 0)
+    → P (kernelRefusal day k)
+unfolding kernelRefusal
+kernel-cases day k P failed misfiled taken =
+    byBool (valid day k)
+    (λ v. rw v (byBool (filed k)
+    (λ f. rw f (taken (rw (v, f))))
+    (λ f. rw f (misfiled v (λ e. contra (filed-from k e) f)))))
+    (λ v. rw v (failed v))
+
 module _ (day : ℕ) (k : State) (P : Stepped → Type 0)
     (failed : valid day k ≡ false → P (refuse k 1 Idle))
-    (turnedAway : valid day k ≡ true → (n : ℕ) → 2 ≤ n → n ≤ 15 → P (refuse k n (runner k)))
-    (done : valid day k ≡ true → (c : Call) → refusalOf day k c ≡ 0 → P (carryOut day k c)) where
-  on-cases : valid day k ≡ true → (c : Call) → P (carryOn day k c)
+    (misfiled : valid day k ≡ true → k .file .running ≢ runner k → P (refuse k 16 Idle))
+    (turnedAway : kernelRefusal day k ≡ 0 → (n : ℕ) → 2 ≤ n → n ≤ 15 → P (refuse k n (runner k)))
+    (done : kernelRefusal day k ≡ 0 → (c : Call) → refusalOf day k c ≡ 0 → P (carryOut day k c)) where
+  on-cases : kernelRefusal day k ≡ 0 → (c : Call) → P (carryOn day k c)
   on-cases v c = rw (carried-by day k c) (go (refusalOf day k c) refl)
     where
       go : (n : ℕ) → refusalOf day k c ≡ n → P (orRefuse k n (carryOut day k c))
       go zero e = done v c e
       go (suc n) e = let h : Late (suc n) = rw e at (late-refusal day k c) in turnedAway v (suc n) (omega arith) (omega arith)
 
+  pub carry-cases : (c : Call) → P (carry day k c)
+  unfolding carry
+  carry-cases c = kernel-cases day k (λ n. P (orTurnAway k n (carryOn day k c))) failed misfiled (λ v. on-cases v c)
+
   pub step-cases : (s : List ℕ) → P (step day k s)
+  unfolding step
   step-cases s =
-      byBool (valid day k)
-      (λ v. rw (step-on day k s v) (opened-cases s (λ r. P (stepOpened day k (r .answer) (r .list))) (turnedAway v 2 (omega arith) (omega arith)) (on-cases v)))
-      (λ v. unfold step in rw v (failed v))
+      rw (read-opened day k s)
+      (kernel-cases day k (λ n. P (orTurnAway k n (stepOpened day k (opened s .answer) (opened s .list)))) failed misfiled
+      (λ v. opened-cases s (λ r. P (stepOpened day k (r .answer) (r .list))) (turnedAway v 2 (omega arith) (omega arith)) (on-cases v)))

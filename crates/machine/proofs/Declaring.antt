@@ -1,5 +1,5 @@
 -- An accepted declaration keeps what the kernel test asks.
-use mathlib.Core.Path.{_≡_, refl, _∙_}
+use mathlib.Core.Path.{_≡_, refl, sym, _∙_}
 use mathlib.Core.Bool.{Bool, true, false, _&&_}
 use mathlib.Core.List.{List}
 use Prim.Native.Nat.{ℕ, _+_, _≤_, _<_}
@@ -33,6 +33,7 @@ use Rattle.machine.specs.Calls.{addTask, addSemaphore, addBolt, addInter
 use Rattle.machine.proofs.Places.{added-apart}
 use Rattle.machine.proofs.Passed.{Passed, Fits, room-task, room-semaphore, room-bolt, room-interrupt}
 use Rattle.machine.proofs.Facts.{TaskOk, Bounded, bounded-of, StateOk}
+use Rattle.machine.proofs.Answers.{runner-added}
 use Rattle.machine.proofs.Looks.{count-below}
 use Rattle.machine.proofs.Schedules.{schedule-more, continuation-more}
 
@@ -144,6 +145,7 @@ module _ (day : ℕ) (k : State) (h : StateOk day k) (c : Call) where
         stuck = λ i l. byEq i n (λ z. rw (z, at-new, fresh-unwaiting q))
             (λ z. stuck-stays day k h (n + 1) (set (k .tasks) n (freshTask q)) (k .locks) i (getD-set-other (k .tasks) n i (freshTask q) noTask z) (λ w y o. refl)
             (λ u y. unopposed-more n (k .tasks) _ u y (λ j o. getD-set-other (k .tasks) n j (freshTask q) noTask (λ z. omega arith)) (rw (at-new) (fresh-unwaiting q))) (omega arith));
+        filed-ok = h .filed-ok ∙ sym (runner-added k q);
       }
 
   -- The tasks stay, and so do the locks that were declared before.
@@ -159,6 +161,7 @@ module _ (day : ℕ) (k : State) (h : StateOk day k) (c : Call) where
         tasks-ok = λ i l. task-more day (k .counts) m _ q (h .tasks-ok i (rw e at l));
         places-ok = rw e (h .places-ok);
         stuck = λ i l. stuck-stays day k h (m .tasks) (k .tasks) r i refl f (λ u y. rw e) (rw e at l);
+        filed-ok = rw e (h .filed-ok);
       }
 
   pub semaphore-added : Passed day DS k c → StateOk day (addSemaphore (c .head .first) k)
@@ -217,4 +220,5 @@ module _ (day : ℕ) (k : State) (h : StateOk day k) (c : Call) where
         tasks-ok = h .tasks-ok;
         places-ok = h .places-ok;
         stuck = h .stuck;
+        filed-ok = h .filed-ok;
       }

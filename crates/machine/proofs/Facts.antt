@@ -1,4 +1,4 @@
--- The kernel test passes exactly where these facts hold.
+-- A kernel is refused with neither 1 nor 16 exactly where these facts hold.
 use mathlib.Core.Path.{_≡_, _∙_}
 use mathlib.Core.Bool.{true, false, _&&_}
 use mathlib.Core.List.{List}
@@ -20,12 +20,15 @@ use Rattle.task.specs.State.{restOk, wanted}
 use Rattle.task.specs.declared.Task.{Task}
 use Rattle.machine.specs.declared.Counts.{Counts}
 use Rattle.machine.specs.declared.State.{State}
-use Rattle.machine.specs.State.{taskAt, countOf}
+use Rattle.machine.specs.declared.Running.{Running}
+use Rattle.machine.specs.State.{taskAt, countOf, withRunning}
+use Rattle.machine.specs.Running.{runner}
 use Rattle.machine.specs.Granting.{servable}
 use Rattle.machine.specs.Test.{between, isPriority, keptOk, holdOk, scheduleOk, continuationOk, waitOk, taskOk, countsOk, nobodyServable, valid}
 use Rattle.machine.specs.Invariants.{Tables, Passes}
 use Rattle.machine.proofs.Below.{all-at, all-from}
 use Rattle.machine.proofs.Places.{Apart, apart-of, places-test}
+use Rattle.machine.proofs.Filing.{taken-valid, taken-filed, taken}
 use Rattle.machine.proofs.Passed.{Fits, counts-fit, parts}
 
 -- A wait's list: one to four numbers, none twice, all declared.
@@ -56,6 +59,7 @@ pub record StateOk (day : ℕ) (k : State) : Type 0 where
   pub tasks-ok : (i : ℕ) → i < k .counts .tasks → TaskOk day (k .counts) (taskAt (k .tasks) i)
   pub places-ok : Apart (k .counts .tasks) (k .places)
   pub stuck : (i : ℕ) → i < k .counts .tasks → servable (k .counts .tasks) (k .tasks) (k .locks) i ≡ false
+  pub filed-ok : k .file .running ≡ runner k
 
 -- ---- from the facts to the test
 
@@ -76,19 +80,18 @@ nobody-test : (k : State) → ((i : ℕ) → i < k .counts .tasks → servable (
 unfolding nobodyServable
 nobody-test k f = all-from (k .counts .tasks) _ (λ i l. not-of-false _ (f i l))
 
-pub passes-of-ok : (day : ℕ) (k : State) → StateOk day k → Passes day k
+valid-test : (day : ℕ) (k : State) → StateOk day k → valid day k ≡ true
 unfolding valid level
-passes-of-ok day k h =
-    record {
-      tables = h .tables;
-      tested =
-          and-both (and-both (and-both (and-both (and-both (and-both (and-both (le-leb _ _ (h .now-ok)) (lt-ltb _ _ (h .clock-ok))) (counts-test (k .counts) (h .counts-ok)))
-          (all-from (k .counts .semaphores) _ (λ s l. le-leb _ _ (h .bounded Request s l))))
-          (all-from (k .counts .bolts) _ (λ b l. le-leb _ _ (h .bounded Enter b l))))
-          (all-from (k .counts .tasks) _ (λ i l. task-test day (k .counts) (taskAt (k .tasks) i) (h .tasks-ok i l))))
-          (places-test (k .counts .tasks) (k .places) (h .places-ok)))
-          (nobody-test k (h .stuck));
-    }
+valid-test day k h =
+    and-both (and-both (and-both (and-both (and-both (and-both (and-both (le-leb _ _ (h .now-ok)) (lt-ltb _ _ (h .clock-ok))) (counts-test (k .counts) (h .counts-ok)))
+    (all-from (k .counts .semaphores) _ (λ s l. le-leb _ _ (h .bounded Request s l))))
+    (all-from (k .counts .bolts) _ (λ b l. le-leb _ _ (h .bounded Enter b l))))
+    (all-from (k .counts .tasks) _ (λ i l. task-test day (k .counts) (taskAt (k .tasks) i) (h .tasks-ok i l))))
+    (places-test (k .counts .tasks) (k .places) (h .places-ok)))
+    (nobody-test k (h .stuck))
+
+pub passes-of-ok : (day : ℕ) (k : State) → StateOk day k → Passes day k
+passes-of-ok day k h = record { tables = h .tables; tested = taken day k (valid-test day k h) (h .filed-ok) }
 
 -- ---- and back
 
@@ -133,7 +136,7 @@ nobody-untest k e i l = not-true _ (all-at (k .counts .tasks) _ e i l)
 
 pub ok-of-passes : (day : ℕ) (k : State) → Passes day k → StateOk day k
 ok-of-passes day k p =
-    let q = parts day k (p .tested) in
+    let q = parts day k (taken-valid day k (p .tested)) in
     record {
       tables = p .tables;
       now-ok = leb-true _ _ (q .now);
@@ -146,6 +149,22 @@ ok-of-passes day k p =
       tasks-ok = λ i l. task-untest day (k .counts) (taskAt (k .tasks) i) (all-at (k .counts .tasks) _ (q .tasks) i l);
       places-ok = apart-of (k .counts .tasks) (k .places) (q .places);
       stuck = nobody-untest k (q .stuck);
+      filed-ok = taken-filed day k (p .tested);
+    }
+
+-- Another task on file, which is the rule's.
+pub refiled : (day : ℕ) (k : State) → StateOk day k → (r : Running) → r ≡ runner k → StateOk day (withRunning r k)
+refiled day k h r e =
+    record {
+      tables = record { tasks = h .tables .tasks; places = h .tables .places; semaphores = h .tables .semaphores; bolts = h .tables .bolts; enabled = h .tables .enabled };
+      now-ok = h .now-ok;
+      clock-ok = h .clock-ok;
+      counts-ok = h .counts-ok;
+      bounded = h .bounded;
+      tasks-ok = h .tasks-ok;
+      places-ok = h .places-ok;
+      stuck = h .stuck;
+      filed-ok = e;
     }
 
 -- ---- lists in tables of the right sizes

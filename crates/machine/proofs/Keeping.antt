@@ -123,4 +123,5 @@ module _ (day : ℕ) (k : State) (h : StateOk day k) where
         tasks-ok = s .tasks-ok;
         places-ok = moved-apart n _ (k .places) (h .places-ok) (omega (arith, h .tables .places, h .counts-ok .tasks));
         stuck = serving-ends n (k .places) (unserved w);
+        filed-ok = refl;
       }

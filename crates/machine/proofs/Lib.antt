@@ -3,6 +3,7 @@ pub mod SetLaws
 pub mod Below
 pub mod Places
 pub mod Urgency
+pub mod Filing
 pub mod Passed
 pub mod Sorts
 pub mod Granting
@@ -22,7 +23,9 @@ pub mod Invariants
 -- Proofs of the promises.
 pub mod Refused
 pub mod Answers
+pub mod Filed
 pub mod Whole
+pub mod Rules
 pub mod Serves
 pub mod Joined
 pub mod Order
@@ -40,12 +43,3 @@ pub mod Sorted
 pub mod Helping
 pub mod OnePass
 pub mod Taking
--- Proofs of the marked cases.
-pub mod Computing
-pub mod Waits
-pub mod Evening
-pub mod Marked
-pub mod Slips
-pub mod Continued
-pub mod Writers
-pub mod TurnCases

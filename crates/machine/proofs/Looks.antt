@@ -32,7 +32,7 @@ use Rattle.machine.specs.State.{taskAt, countOf, withState, placeAt, wit
 use Rattle.machine.specs.Running.{urgency, runningOf, runner}
 use Rattle.machine.specs.Granting.{available, couldBeGranted, servable}
 use Rattle.machine.specs.Sums.{allBelow}
-use Rattle.machine.specs.Test.{taskOk, countsOk, nobodyServable, valid, placesOk}
+use Rattle.machine.specs.Test.{taskOk, countsOk, nobodyServable, valid, placesOk, filed, kernelRefusal}
 use Rattle.machine.specs.Sorts.{sortOf, givenKind, naming, runnerAt, placeOf}
 use Rattle.machine.specs.Refusals.{listDeclared, declaredBy, declaredIn, formalRefusal, refusalBy, stateRefusal}
 use Rattle.machine.proofs.Urgency.{scan-same}
@@ -134,7 +134,7 @@ module _ (k : State) (ts : List Task) (ps : List ℕ) (r : Locks) (is : List Boo
   nobody-same h =
       all-same (k .counts .tasks) _ _ (λ i l. ap not (servable-same (k .counts) (k .tasks) ts same (k .locks) r seen i l (h i l)))
 
-  pub valid-same : (day : ℕ) → valid day k ≡ valid day k′
+  valid-same : (day : ℕ) → valid day k ≡ valid day k′
   valid-same day =
       let places = placesOk (k .counts .tasks) (k .places) in
       rw (in-parts day k, in-parts day k′, ← limits-same day, ← tasks-same day, ← places-same)
@@ -144,6 +144,10 @@ module _ (k : State) (ts : List Task) (ps : List ℕ) (r : Locks) (is : List Boo
 
   pub runner-same : runner k ≡ runner k′
   runner-same = running-same (k .counts) (k .tasks) ts same (k .places) ps stand
+
+  pub kernel-same : (day : ℕ) → kernelRefusal day k ≡ kernelRefusal day k′
+  unfolding kernelRefusal filed
+  kernel-same day = rw (valid-same day, runner-same)
 
   -- ---- refusals 8 to 15
 

@@ -16,7 +16,7 @@ use Rattle.lock.proofs.Bools.{contra}
 use Rattle.machine.specs.declared.Counts.{Counts}
 use Rattle.machine.specs.declared.State.{State}
 use Rattle.machine.specs.Running.{runner}
-use Rattle.machine.specs.Test.{valid}
+use Rattle.machine.specs.Test.{kernelRefusal}
 use Rattle.machine.specs.declared.Sort.{Sort}
 use Rattle.machine.specs.declared.Sort.the-variants.{Declaration, OneTask, TheRunner, ListAsked, ListGiven, AnInterrupt, EveryTask}
 use Rattle.machine.specs.Sorts.{sortOf, declaring, declares}
@@ -128,7 +128,7 @@ and-false : (a b : Bool) → b ≡ false → (a && b) ≡ false
 and-false true b e = e
 and-false false b e = refl
 
-module _ (day : ℕ) (k : State) (s : List ℕ) (c : Call) (v : valid day k ≡ true) (o : opened s ≡ accepted c) where
+module _ (day : ℕ) (k : State) (s : List ℕ) (c : Call) (v : kernelRefusal day k ≡ 0) (o : opened s ≡ accepted c) where
   stepped : step day k s ≡ carryOn day k c
   stepped = step-on day k s v ∙ rw o
 

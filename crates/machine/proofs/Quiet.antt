@@ -30,7 +30,7 @@ use Rattle.machine.specs.Running.{runner, urgency}
 use Rattle.machine.specs.Granting.{servable}
 use Rattle.machine.specs.Work.{turns, everyTurn}
 use Rattle.machine.specs.Serving.{serve}
-use Rattle.machine.specs.Test.{nobodyServable, valid}
+use Rattle.machine.specs.Test.{nobodyServable, valid, kernelRefusal}
 use Rattle.machine.specs.Sorts.{declares}
 use Rattle.machine.specs.Refusals.{declaredBy, roomFor, formalRefusal, admittedIf, refusalBy, stateRefusal}
 use Rattle.machine.specs.Calls.{tick, workBy}
@@ -40,6 +40,7 @@ use Rattle.machine.specs.Scripts.{row, oneTick}
 use Rattle.machine.specs.Quiet.{Quiet, later, TicksAreQuiet, QuietUpToNext}
 use Rattle.machine.proofs.Below.{mostUrgent-none}
 use Rattle.machine.proofs.NextEvent.{next-is-next, next-later}
+use Rattle.machine.proofs.Filing.{taken-valid, taken-filed, taken}
 use Rattle.machine.proofs.Passed.{parts, tested}
 use Rattle.machine.proofs.SetLaws.{each-same, unmarked-none}
 use Rattle.machine.proofs.Works.{set-none}
@@ -60,9 +61,12 @@ module _ (f : Task → Turn) where
       (kept-tasks n ts (omega arith) (λ i l. e (suc i) (omega arith)))
 
 module _ (day : ℕ) (k : State) where
-  pub still-valid : (n : Instant) → k .now .0 ≤ lastInstant → n .0 ≤ lastInstant → valid day k ≡ true → valid day (begunAt n k) ≡ true
+  still-valid : (n : Instant) → k .now .0 ≤ lastInstant → n .0 ≤ lastInstant → valid day k ≡ true → valid day (begunAt n k) ≡ true
   unfolding valid nobodyServable
   still-valid n a b v = rw (le-leb (n .0) lastInstant b) (rw (le-leb (k .now .0) lastInstant a) at v)
+
+  pub still-taken : (n : Instant) → k .now .0 ≤ lastInstant → n .0 ≤ lastInstant → kernelRefusal day k ≡ 0 → kernelRefusal day (begunAt n k) ≡ 0
+  still-taken n a b t = taken day (begunAt n k) (still-valid n a b (taken-valid day k t)) (taken-filed day k t)
 
 -- ---- one tick
 
@@ -72,7 +76,7 @@ unfolding formalRefusal declares declaredBy roomFor shape times timed formed lis
 tick-formed day n true = refl
 tick-formed day n false = refl
 
-module _ (day : ℕ) (k : State) (room : length (k .tasks) ≡ mostTasks) (v : valid day k ≡ true) where
+module _ (day : ℕ) (k : State) (room : length (k .tasks) ≡ mostTasks) (v : kernelRefusal day k ≡ 0) where
   nobody-served : (g turns : ℕ)
       → serve (k .counts .tasks) (k .places) turns (record { tasks = k .tasks; locks = k .locks; granted = g })
       ≡ record { tasks = k .tasks; locks = k .locks; granted = g }
@@ -81,7 +85,7 @@ module _ (day : ℕ) (k : State) (room : length (k .tasks) ≡ mostTasks) (v : v
   nobody-served g (suc n) =
       rw (
         mostUrgent-none (k .counts .tasks) (servable (k .counts .tasks) (k .tasks) (k .locks)) (urgency (k .places) (k .tasks))
-            (nobody-untest k (parts day k v .stuck)),
+            (nobody-untest k (parts day k (taken-valid day k v) .stuck)),
         serve,
       )
 
@@ -92,7 +96,7 @@ module _ (day : ℕ) (k : State) (room : length (k .tasks) ≡ mostTasks) (v : v
   tick-still q =
       let n = k .counts .tasks in
       let f = tickTurn (plus (k .now) (duration 1)) in
-      let r : n ≤ length (k .tasks) = omega (arith, tested day k v .fits .tasks) in
+      let r : n ≤ length (k .tasks) = omega (arith, tested day k (taken-valid day k v) .fits .tasks) in
       let e : (i : ℕ) → i < n → f (taskAt (k .tasks) i) ≡ unmarked (taskAt (k .tasks) i) =
       λ i l. still (plus (k .now) (duration 1)) (taskAt (k .tasks) i) (q i l (k .now .0 + 1) (omega arith) (omega arith)) in
       let tasks = kept-tasks f n (k .tasks) r e in
@@ -111,7 +115,7 @@ module _ (day : ℕ) (k : State) (room : length (k .tasks) ≡ mostTasks) (v : v
   unfolding finish
   tick-moves q =
       let n = k .counts .tasks in
-      rw (tick-still q, nobody-served 0 n, moved-nobody n (event (k .tasks) (k .tasks) 0) n (k .places) (λ i l. no-event (k .tasks) i))
+      rw (tick-still q, nobody-served 0 n, moved-nobody n (event (k .tasks) (k .tasks) 0) n (k .places) (λ i l. no-event (k .tasks) i), ← taken-filed day k v)
 
   -- A tick, quiet or not.
   pub tick-step : (c : Call) → step day k oneTick ≡ orRefuse k (stateRefusal TI k c) (finish k (tick k))
@@ -149,7 +153,7 @@ unfolding log final row later next
 ticks-are-quiet day zero k room v q l = record { answers = refl; state = refl }
 ticks-are-quiet day (suc d) k room v q l =
     let s = quiet-step day k room v (first-quiet d k q) (omega arith) in
-    let w = still-valid day k (plus (k .now) (duration 1)) (omega arith) (omega arith) v in
+    let w = still-taken day k (plus (k .now) (duration 1)) (omega arith) (omega arith) v in
     let r = ticks-are-quiet day d (next k) room w (quiet-next d k q) (omega arith) in
     record {
       answers = rw (s, r .answers);

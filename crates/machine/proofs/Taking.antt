@@ -21,7 +21,7 @@ use Rattle.machine.specs.declared.Running.{Running}
 use Rattle.machine.specs.declared.Stepped.{Stepped}
 use Rattle.machine.specs.Sets.{Started}
 use Rattle.machine.specs.State.{mostTasks, taskAt, placeAt, freshTask, nothing}
-use Rattle.machine.specs.Running.{urgency}
+use Rattle.machine.specs.Running.{urgency, runningOf, mostUrgent}
 use Rattle.machine.specs.Places.{event, standsBefore}
 use Rattle.machine.specs.Work.{Work}
 use Rattle.machine.specs.Test.{valid}
@@ -33,6 +33,7 @@ use Rattle.machine.specs.Invariants.{IsDay, Passes}
 use Rattle.machine.specs.Turns.{Permutation, TestedPlaces, PlacesStay, UrgencyTellsApart, MovesToEnd, eventIn, StepMoves, RefusedHasNoEvent, DeclarationHasNoEvent, runnableIn, RunnableHasNoEvent, waitsIn, WaiterHasNoEvent, lastFrom, earlier, PlacesTellEvents, StaysRunnable, Behind, TurnsAreTaken, RestartedStandsBehind, StaysBehind, StaysWaiting, WhoAskedFirst}
 use Rattle.machine.proofs.Places.{Apart, apart-of, reached, moved-order, no-event}
 use Rattle.machine.proofs.Urgency.{runner-first}
+use Rattle.machine.proofs.Filing.{taken-valid}
 use Rattle.machine.proofs.Passed.{Passed, passed, as-mark, room-task, tested, parts}
 use Rattle.machine.proofs.Facts.{bounded-of, passes-of-ok, ok-of-passes}
 use Rattle.machine.proofs.Cases.{out-cases, declaration-cases, step-cases}
@@ -55,7 +56,7 @@ pub tested-places : TestedPlaces
 tested-places day k v = permuted (k .counts .tasks) (k .places) (tested-apart day k v)
 
 pub places-stay : PlacesStay
-places-stay day isDay k p s o = tested-places day (step day k s .state) (step-passes day isDay k p s o .tested)
+places-stay day isDay k p s o = tested-places day (step day k s .state) (taken-valid day _ (step-passes day isDay k p s o .tested))
 
 pub urgency-tells-apart : UrgencyTellsApart
 urgency-tells-apart day k v =
@@ -148,7 +149,7 @@ module _ (day : ℕ) (k : State) (p : Passes day k) where
 
   moves : (s : List ℕ) → Moves k (step day k s)
   moves s =
-      step-cases day k (Moves k) (λ v. moves-refuse k 1 _) (λ v n a b. moves-refuse k n _)
+      step-cases day k (Moves k) (λ v. moves-refuse k 1 _) (λ v m. moves-refuse k 16 _) (λ v n a b. moves-refuse k n _)
       (λ v c e. out-cases day k c (Moves k) (λ d. moves-declared k (c .head .mark) c) (λ d. finish-moves (workOf day k c))) s
 
 pub step-moves : StepMoves
@@ -248,7 +249,7 @@ module _ (k : State) (n : ℕ) (m : ℕ → ℕ) (h : Told k n m) where
 
     told-step : (s : List ℕ) → Told (step day k s .state) (suc n) (next k (step day k s) n m)
     told-step s =
-        step-cases day k (λ t. Told (t .state) (suc n) (next k t n m)) (λ v. told-refuse 1 _) (λ v a x y. told-refuse a _)
+        step-cases day k (λ t. Told (t .state) (suc n) (next k t n m)) (λ v. told-refuse 1 _) (λ v y. told-refuse 16 _) (λ v a x y. told-refuse a _)
         (λ v c e. told-out c (passed day k c e)) s
 
 module _ (day : ℕ) (isDay : IsDay day) where
@@ -273,6 +274,7 @@ module _ (day : ℕ) (isDay : IsDay day) where
         tasks-ok = λ i l. absurd (not-suc-le-zero l);
         places-ok = record { range = λ i l. absurd (not-suc-le-zero l); apart = λ i j l m e. absurd (not-suc-le-zero l) };
         stuck = λ i l. absurd (not-suc-le-zero l);
+        filed-ok = unfold runningOf in unfold mostUrgent in refl;
       })
 
   nothing-told : Told nothing 0 (λ i. 0)

@@ -41,12 +41,13 @@ use Rattle.machine.specs.Running.{runner, someone}
 use Rattle.machine.specs.Granting.{couldBeGranted}
 use Rattle.machine.specs.Sorts.{sortOf, runnerAt}
 use Rattle.machine.specs.Work.{byTurn, changed, onlyEnabled, everyTurn}
-use Rattle.machine.specs.Test.{valid}
+use Rattle.machine.specs.Test.{valid, kernelRefusal}
 use Rattle.machine.specs.Activation.{activateTurn, goOnTurn, resumeBy}
 use Rattle.machine.specs.Calls.{addTask, addSemaphore, addBolt, addInterrupt, declaration, namedTurn, runnerTurn, asks, changeOf, trigger, interruptBy, tick, workBy, workOf}
 use Rattle.machine.specs.Step.{refuse, finish, declared, orRefuse, carryOut, step}
 use Rattle.machine.specs.Log.{final}
 use Rattle.machine.specs.Continuing.{isRunner, touches, touchesBy, disturbs, NothingElse, undisturbed, StaysOverLists, taskAfter}
+use Rattle.machine.proofs.Filing.{taken-valid}
 use Rattle.machine.proofs.Passed.{refusalOf, Passed, passed, unrefused}
 use Rattle.machine.proofs.Sorts.{continue-mark, tick-mark}
 use Rattle.machine.proofs.Cases.{out-cases, done-number, declaration-cases, carried-by, stepOpened, step-on, step-cases}
@@ -218,16 +219,17 @@ module _ (day : ℕ) (k : State) (i : ℕ) (l : i < k .counts .tasks) where
       let o = q ∙ carried-by day k c in
       rw o (read-stays v c (rw o at e))
 
-  -- A kernel that fails the test is refused.
-  failed-stays : valid day k ≡ false → (s : List ℕ) → Stays (step day k s .state)
+  -- A kernel turned away stays.
+  away-stays : (n : ℕ) → kernelRefusal day k ≡ suc n → (s : List ℕ) → Stays (step day k s .state)
   unfolding step refuse
-  failed-stays v s = rw v (has (taskAt (k .tasks) i))
+  away-stays n v s = rw v (has (taskAt (k .tasks) i))
 
 pub nothing-else : NothingElse
-nothing-else day k s i l e =
-    byBool (valid day k)
-    (λ v. opened-stays day k i l v (opened s .answer) (opened s .list) (step day k s) (step-on day k s v) e)
-    (λ v. failed-stays day k i l v s)
+nothing-else day k s i l e = go (kernelRefusal day k) refl
+  where
+    go : (n : ℕ) → kernelRefusal day k ≡ n → SameContinuation (taskAt (k .tasks) i) (taskAfter day k s i)
+    go zero t = opened-stays day k i l (taken-valid day k t) (opened s .answer) (opened s .list) (step day k s) (step-on day k s t) e
+    go (suc n) t = away-stays day k i l n t s
 
 -- ---- a list of records
 
@@ -235,7 +237,7 @@ nothing-else day k s i l e =
 pub still-declared : (day : ℕ) (k : State) (i : ℕ) → i < k .counts .tasks → (s : List ℕ) → i < step day k s .state .counts .tasks
 unfolding refuse declared finish addTask addSemaphore addBolt addInterrupt
 still-declared day k i l s =
-    step-cases day k (λ z. i < z .state .counts .tasks) (λ v. l) (λ v n a b. l)
+    step-cases day k (λ z. i < z .state .counts .tasks) (λ v. l) (λ v m. l) (λ v n a b. l)
     (λ v c e. out-cases day k c (λ z. i < z .state .counts .tasks)
     (λ d. declaration-cases (c .head .mark) c k (λ z. i < z .counts .tasks) (λ q. omega arith) (λ q. l) (λ q. l) (λ q. l) (λ q. l) l)
     (λ d. l)) s

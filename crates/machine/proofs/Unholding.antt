@@ -21,7 +21,7 @@ use Rattle.task.specs.declared.Task.{Task}
 use Rattle.task.proofs.Firing.{turned}
 use Rattle.machine.specs.declared.State.{State}
 use Rattle.machine.specs.State.{mostTasks, taskAt}
-use Rattle.machine.specs.Test.{valid}
+use Rattle.machine.specs.Test.{kernelRefusal}
 use Rattle.machine.specs.Refusals.{refusalBy}
 use Rattle.machine.specs.Calls.{tick}
 use Rattle.machine.specs.Step.{finish, step}
@@ -30,9 +30,10 @@ use Rattle.machine.specs.Invariants.{IsDay, Passes}
 use Rattle.machine.specs.Scripts.{row, oneTick}
 use Rattle.machine.specs.Quiet.{later}
 use Rattle.machine.specs.Continuing.{SameButWait, taskAfter, DueInTime, DueAfterTicks, PromiseKept}
+use Rattle.machine.proofs.Filing.{taken-valid}
 use Rattle.machine.proofs.Rows.{row-split, log-append, final-append}
 use Rattle.machine.proofs.Invariants.{step-passes}
-use Rattle.machine.proofs.Quiet.{still-valid, tick-step, ticks-are-quiet}
+use Rattle.machine.proofs.Quiet.{still-taken, tick-step, ticks-are-quiet}
 use Rattle.machine.proofs.Accepted.{finish-keeps, fires-on, task-ok, table, every-at}
 use Rattle.machine.proofs.Undisturbed.{still-declared, stays-over-lists}
 
@@ -45,7 +46,7 @@ next-falls a x e =
 
 -- ---- one tick
 
-module _ (day : ℕ) (k : State) (room : length (k .tasks) ≡ mostTasks) (v : valid day k ≡ true) (l : k .now .0 < lastInstant) where
+module _ (day : ℕ) (k : State) (room : length (k .tasks) ≡ mostTasks) (v : kernelRefusal day k ≡ 0) (l : k .now .0 < lastInstant) where
   ticked : step day k oneTick ≡ finish k (tick k)
   unfolding refusalBy
   ticked = tick-step day k room v (callOf TI oneTick) ∙ rw (lt-ltb (k .now .0) lastInstant l)
@@ -59,7 +60,7 @@ module _ (day : ℕ) (k : State) (room : length (k .tasks) ≡ mostTasks) (v : v
   unfolding tick
   ticked-turn i q =
       let n = plus (k .now) (duration 1) in
-      rw ticked (rw (every-at k n (tickTurn n) (table day k v) i q) at (finish-keeps k (tick k) i))
+      rw ticked (rw (every-at k n (tickTurn n) (table day k (taken-valid day k v)) i q) at (finish-keeps k (tick k) i))
 
 pub due-in-time : DueInTime
 due-in-time day k i x room v l e q m =
@@ -67,7 +68,7 @@ due-in-time day k i x room v l e q m =
     let w = rw here at (ticked-turn day k room v (omega arith) i l) in
     record {
       number = ticked-number day k room v (omega arith);
-      fires = fires-on _ _ w (turned .tick x (taskAt (k .tasks) i) (task-ok day k v i l .rests) (next-falls (taskAt (k .tasks) i .continuation) x e));
+      fires = fires-on _ _ w (turned .tick x (taskAt (k .tasks) i) (task-ok day k (taken-valid day k v) i l .rests) (next-falls (taskAt (k .tasks) i .continuation) x e));
     }
 
 -- ---- after d quiet ticks
@@ -77,13 +78,13 @@ record Later (day d : ℕ) (k : State) : Type 0 where
   tasks : later d k .tasks ≡ k .tasks
   counts : later d k .counts ≡ k .counts
   now : later d k .now .0 ≡ k .now .0 + d
-  tested : valid day (later d k) ≡ true
+  tested : kernelRefusal day (later d k) ≡ 0
 
-later-as : (day d : ℕ) (k : State) → valid day k ≡ true → k .now .0 + d ≤ lastInstant → Later day d k
+later-as : (day d : ℕ) (k : State) → kernelRefusal day k ≡ 0 → k .now .0 + d ≤ lastInstant → Later day d k
 unfolding later
 later-as day zero k v l = record { tasks = refl; counts = refl; now = omega arith; tested = v }
 later-as day (suc d) k v l =
-    record { tasks = refl; counts = refl; now = refl; tested = still-valid day k (plus (k .now) (duration (suc d))) (omega arith) l v }
+    record { tasks = refl; counts = refl; now = refl; tested = still-taken day k (plus (k .now) (duration (suc d))) (omega arith) l v }
 
 -- d ticks and one more.
 one-more : (d : ℕ) → row (suc d) oneTick ≡ row d oneTick ++ (oneTick ∷ [])

@@ -16,6 +16,7 @@ pub record Agree (k k′ : State) : Type 0 where
   pub clock : k .clock ≡ k′ .clock
   pub now : k .now ≡ k′ .now
   pub begun : k .begun ≡ k′ .begun
+  pub file : k .file ≡ k′ .file
   pub tasks : (i : ℕ) → i < k .counts .tasks → taskAt (k .tasks) i ≡ taskAt (k′ .tasks) i
   pub places : (i : ℕ) → i < k .counts .tasks → placeAt (k .places) i ≡ placeAt (k′ .places) i
   pub semaphores : (x : ℕ) → x < k .counts .semaphores → valueAt (k .locks) x ≡ valueAt (k′ .locks) x

@@ -33,7 +33,7 @@ use Rattle.machine.specs.declared.Running.the-variants.{Idle, Runs}
 use Rattle.machine.specs.State.{mostTasks, taskAt, enabledAt}
 use Rattle.machine.specs.Running.{runner}
 use Rattle.machine.specs.Serving.{Served, serve}
-use Rattle.machine.specs.Test.{valid}
+use Rattle.machine.specs.Test.{valid, kernelRefusal}
 use Rattle.machine.specs.Step.{step}
 use Rattle.machine.specs.Log.{AllOctets, final, log}
 use Rattle.machine.specs.Invariants.{IsDay, Passes}
@@ -167,7 +167,7 @@ pub record Due (day : ℕ) (k : State) (i : ℕ) (x : Instant) : Type 0 where
 -- A continuation that pends at x comes due in the tick to x.
 abbrev pub DueInTime : Type 0
 DueInTime =
-    (day : ℕ) (k : State) (i : ℕ) (x : Instant) → length (k .tasks) ≡ mostTasks → valid day k ≡ true
+    (day : ℕ) (k : State) (i : ℕ) (x : Instant) → length (k .tasks) ≡ mostTasks → kernelRefusal day k ≡ 0
     → i < k .counts .tasks → nextOf (taskAt (k .tasks) i .continuation) ≡ At x
     → k .now .0 + 1 ≡ x .0 → x .0 ≤ lastInstant
     → Due day k i x
@@ -182,7 +182,7 @@ pub record DueAfter (day d : ℕ) (k : State) (i : ℕ) (x : Instant) : Type 0 w
 -- A continuation that pends at x, with nothing to come before.
 abbrev pub DueAfterTicks : Type 0
 DueAfterTicks =
-    (day d : ℕ) (k : State) (i : ℕ) (x : Instant) → length (k .tasks) ≡ mostTasks → valid day k ≡ true
+    (day d : ℕ) (k : State) (i : ℕ) (x : Instant) → length (k .tasks) ≡ mostTasks → kernelRefusal day k ≡ 0
     → i < k .counts .tasks → nextOf (taskAt (k .tasks) i .continuation) ≡ At x
     → Quiet d k → k .now .0 + d + 1 ≡ x .0 → x .0 ≤ lastInstant
     → DueAfter day d k i x

@@ -11,7 +11,7 @@ use Rattle.machine.specs.declared.State.{State}
 use Rattle.machine.specs.State.{mostTasks, mostSemaphores, mostBolts, mostInterrupts}
 use Rattle.machine.specs.Granting.{servable}
 use Rattle.machine.specs.Serving.{Served, serve}
-use Rattle.machine.specs.Test.{valid}
+use Rattle.machine.specs.Test.{valid, kernelRefusal}
 use Rattle.machine.specs.Step.{carry, step}
 
 -- A length of the day that the instants have room for.
@@ -27,12 +27,18 @@ pub record Tables (k : State) : Type 0 where
   pub bolts : length (k .locks .bolts) ≡ mostBolts
   pub enabled : length (k .enabled) ≡ mostInterrupts
 
--- A kernel that passes the kernel test.
+-- A kernel that is refused with neither 1 nor 16.
 pub record Passes (day : ℕ) (k : State) : Type 0 where
   pub tables : Tables k
-  pub tested : valid day k ≡ true
+  pub tested : kernelRefusal day k ≡ 0
 
--- A kernel that passes leaves, after any bytes, accepted or refused, a kernel that passes.
+-- A kernel that passes the kernel test leaves, after any bytes, accepted or refused, one that passes it, whatever is on file.
+abbrev pub StepTested : Type 0
+StepTested =
+    (day : ℕ) → IsDay day → (k : State) → Tables k → valid day k ≡ true → (s : List ℕ) → Octets s
+    → Tables (step day k s .state) × (valid day (step day k s .state) ≡ true)
+
+-- And one that isn't refused with 16 either leaves one that isn't.
 abbrev pub StepPasses : Type 0
 StepPasses =
     (day : ℕ) → IsDay day → (k : State) → Passes day k → (s : List ℕ) → Octets s → Passes day (step day k s .state)

@@ -18,6 +18,7 @@ pub mod Log
 -- What it keeps, for every kernel value and any bytes.
 pub mod Promises
 pub mod Whole
+pub mod Rules
 pub mod Invariants
 pub mod Beyond
 pub mod Scripts
@@ -25,9 +26,3 @@ pub mod Quiet
 pub mod Continuing
 pub mod OnePass
 pub mod Turns
--- What it answers: document 01's marked cases and slips, continuations, waiting writers, and turns.
-pub mod Marked
-pub mod Slips
-pub mod Continued
-pub mod Writers
-pub mod TurnCases

@@ -2,7 +2,7 @@
 use mathlib.Core.Path.{_≡_}
 use mathlib.Core.Logic.{_≢_}
 use mathlib.Core.Bool.{Bool, true, false, not, _&&_}
-use mathlib.Core.List.{List}
+use mathlib.Core.List.{List, map}
 use Prim.Native.Nat.{ℕ, _≤_, _<_}
 use lib.ListN.{length}
 use Rattle.layout.specs.Fields.{bytesOf}
@@ -23,10 +23,11 @@ use Rattle.machine.specs.State.{taskAt, placeAt}
 use Rattle.machine.specs.Running.{mostPlaces, urgency, mostUrgent, runner}
 use Rattle.machine.specs.Granting.{servable}
 use Rattle.machine.specs.Serving.{Served, nextServed}
-use Rattle.machine.specs.Test.{valid}
+use Rattle.machine.specs.Test.{valid, kernelRefusal}
 use Rattle.machine.specs.Sorts.{declares}
 use Rattle.machine.specs.Refusals.{declaredIn}
-use Rattle.machine.specs.Step.{refuse, carry, step}
+use Rattle.machine.specs.Step.{plainAnswer, refuse, carry, step}
+use Rattle.machine.specs.Log.{final, log}
 
 -- ---- the most urgent task. Proved in proofs/Urgency.antt.
 
@@ -70,13 +71,13 @@ NextServedIsFirst =
 -- The running task of an answer is that of the kernel handed back, refused or not.
 abbrev pub AnswersRunner : Type 0
 AnswersRunner =
-    (day : ℕ) (k : State) (s : List ℕ) → valid day k ≡ true
+    (day : ℕ) (k : State) (s : List ℕ) → kernelRefusal day k ≡ 0
     → step day k s .answer .running ≡ runner (step day k s .state)
 
 -- And so it is the first of that kernel's declared tasks that are runnable.
 abbrev pub AnswersFirst : Type 0
 AnswersFirst =
-    (day : ℕ) (k : State) (s : List ℕ) → valid day k ≡ true
+    (day : ℕ) (k : State) (s : List ℕ) → kernelRefusal day k ≡ 0
     → let z = step day k s .state in
     Chosen (z .counts .tasks) (λ i. runnable (taskAt (z .tasks) i)) (z .places) (z .tasks) (step day k s .answer .running)
 
@@ -97,13 +98,56 @@ UntestedIsRefused =
     → step day k s
     ≡ record { state = k; answer = record { number = 1; running = Idle; sets = noSets } }
 
--- Refusals are numbered 1 to 15, and 1 is for no other ground.
+-- One that passes it with another task on file than the rule gives is refused with 16 whatever the bytes, and no task runs.
+abbrev pub MisfiledIsRefused : Type 0
+MisfiledIsRefused =
+    (day : ℕ) (k : State) (s : List ℕ) → valid day k ≡ true → k .file .running ≢ runner k
+    → step day k s
+    ≡ record { state = k; answer = record { number = 16; running = Idle; sets = noSets } }
+
+-- A kernel turned away with 1 or 16 stays as it is over any list of records, and each of them has that answer.
+pub record TurnedAway (day n : ℕ) (k : State) (rs : List (List ℕ)) : Type 0 where
+  pub entries : log day k rs ≡ map (λ r. record { bytes = r; answer = plainAnswer n Idle }) rs
+  pub state : final day k rs ≡ k
+
+abbrev pub TurnedAwayForGood : Type 0
+TurnedAwayForGood =
+    (day n : ℕ) (k : State) → kernelRefusal day k ≡ n → n ≢ 0 → (rs : List (List ℕ)) → TurnedAway day n k rs
+
+-- Refusals are numbered 1 to 16, and 1 and 16 are for no other ground.
 pub record Numbered (day : ℕ) (k : State) (n : ℕ) : Type 0 where
-  pub most : n ≤ 15
+  pub most : n ≤ 16
   pub first : n ≡ 1 → valid day k ≡ false
+  pub second : n ≡ 16 → (valid day k ≡ true) × (k .file .running ≢ runner k)
 
 abbrev pub RefusalsAreNumbered : Type 0
 RefusalsAreNumbered = (day : ℕ) (k : State) (s : List ℕ) → Numbered day k (step day k s .answer .number)
+
+-- ---- the running task on file. Proved in proofs/Filed.antt.
+
+-- After every step that isn't refused with 1 or 16, the rule's task is on file, whatever the kernel was and the bytes.
+abbrev pub StepFiles : Type 0
+StepFiles =
+    (day : ℕ) (k : State) (s : List ℕ) → step day k s .answer .number ≢ 1 → step day k s .answer .number ≢ 16
+    → step day k s .state .file .running ≡ runner (step day k s .state)
+
+-- The same for a call or declaration that was read.
+abbrev pub CarryFiles : Type 0
+CarryFiles =
+    (day : ℕ) (k : State) (c : Call) → carry day k c .answer .number ≢ 1 → carry day k c .answer .number ≢ 16
+    → carry day k c .state .file .running ≡ runner (carry day k c .state)
+
+-- The task on file of a kernel that is refused with neither is the first of its declared tasks that are runnable.
+abbrev pub FiledIsFirst : Type 0
+FiledIsFirst =
+    (day : ℕ) (k : State) → kernelRefusal day k ≡ 0
+    → Chosen (k .counts .tasks) (λ i. runnable (taskAt (k .tasks) i)) (k .places) (k .tasks) (k .file .running)
+
+-- And the answer to any bytes names the task on file in the kernel handed back.
+abbrev pub AnswersFiled : Type 0
+AnswersFiled =
+    (day : ℕ) (k : State) (s : List ℕ) → kernelRefusal day k ≡ 0
+    → step day k s .answer .running ≡ step day k s .state .file .running
 
 -- ---- records and calls. Proved in proofs/Joined.antt and proofs/Order.antt.
 
@@ -129,7 +173,7 @@ numberFor k (Accepted h) l =
 -- What the reader refuses, the step refuses.
 abbrev pub RefusedByReader : Type 0
 RefusedByReader =
-    (day : ℕ) (k : State) (s : List ℕ) (n : ℕ) → valid day k ≡ true → reading day s .answer ≡ Refused n
+    (day : ℕ) (k : State) (s : List ℕ) (n : ℕ) → kernelRefusal day k ≡ 0 → reading day s .answer ≡ Refused n
     → step day k s ≡ refuse k (numberFor k (opened s .answer) (opened s .list)) (runner k)
 
 -- Where the two numbers part, for bytes that open to c.
@@ -148,4 +192,4 @@ pub record Order (day : ℕ) (k : State) (s : List ℕ) (c : Call) : Type 0 wher
 
 abbrev pub RefusalsInOrder : Type 0
 RefusalsInOrder =
-    (day : ℕ) (k : State) (s : List ℕ) (c : Call) → valid day k ≡ true → opened s ≡ accepted c → Order day k s c
+    (day : ℕ) (k : State) (s : List ℕ) (c : Call) → kernelRefusal day k ≡ 0 → opened s ≡ accepted c → Order day k s c

@@ -14,7 +14,7 @@ use Rattle.machine.specs.declared.State.{State}
 use Rattle.machine.specs.State.{mostTasks, taskAt, begunAt}
 use Rattle.machine.specs.Running.{runner}
 use Rattle.machine.specs.NextEvent.{nextEvent}
-use Rattle.machine.specs.Test.{valid}
+use Rattle.machine.specs.Test.{kernelRefusal}
 use Rattle.machine.specs.Step.{plainAnswer}
 use Rattle.machine.specs.Log.{Entry, final, log}
 use Rattle.machine.specs.Scripts.{row, oneTick}
@@ -57,15 +57,15 @@ pub record QuietTicks (day d : ℕ) (k : State) : Type 0 where
   pub answers : log day k (row d oneTick) ≡ row d (quietTick k)
   pub state : final day k (row d oneTick) ≡ later d k
 
--- For every kernel that passes the test, with its table of tasks, and every number of ticks up to the last instant.
+-- For every kernel that isn't turned away, with its table of tasks, and every number of ticks up to the last instant.
 abbrev pub TicksAreQuiet : Type 0
 TicksAreQuiet =
-    (day d : ℕ) (k : State) → length (k .tasks) ≡ mostTasks → valid day k ≡ true
+    (day d : ℕ) (k : State) → length (k .tasks) ≡ mostTasks → kernelRefusal day k ≡ 0
     → Quiet d k → k .now .0 + d ≤ lastInstant → QuietTicks day d k
 
 -- So it is up to just before the next event, which stays the next meanwhile.
 abbrev pub QuietUpToNext : Type 0
 QuietUpToNext =
-    (day d : ℕ) (k : State) → length (k .tasks) ≡ mostTasks → valid day k ≡ true
+    (day d : ℕ) (k : State) → length (k .tasks) ≡ mostTasks → kernelRefusal day k ≡ 0
     → before (plus (k .now) (duration d)) (nextEvent k) ≡ true → k .now .0 + d ≤ lastInstant
     → QuietTicks day d k × (nextEvent (later d k) ≡ nextEvent k)

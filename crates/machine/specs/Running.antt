@@ -2,7 +2,7 @@
 use mathlib.Core.Bool.{Bool, true, false, cond}
 use mathlib.Core.List.{List}
 use Prim.Native.Nat.{ℕ, zero, suc, _+_, _*_}
-use lib.Dec.{ltb}
+use lib.Dec.{ltb, eqb}
 use Rattle.task.specs.State.{runnable}
 use Rattle.task.specs.declared.Task.{Task}
 use Rattle.machine.specs.declared.State.{State}
@@ -33,6 +33,12 @@ runningOf n ps ts = mostUrgent n (λ i. runnable (taskAt ts i)) (urgency ps ts)
 
 abbrev pub runner : State → Running
 runner k = runningOf (k .counts .tasks) (k .places) (k .tasks)
+
+abbrev pub sameRunning : Running → Running → Bool
+sameRunning Idle Idle = true
+sameRunning Idle (Runs j) = false
+sameRunning (Runs i) Idle = false
+sameRunning (Runs i) (Runs j) = eqb i j
 
 abbrev pub someone : Running → Bool
 someone Idle = false

@@ -16,6 +16,8 @@ use Rattle.task.specs.declared.Hold.the-variants.{Unheld}
 use Rattle.task.specs.declared.Kept.the-variants.{Empty}
 use Rattle.task.specs.declared.Task.{Task}
 use Rattle.machine.specs.declared.Counts.{Counts}
+use Rattle.machine.specs.declared.Running.{Running}
+use Rattle.machine.specs.declared.Running.the-variants.{Idle}
 use Rattle.machine.specs.declared.State.{State}
 
 -- ---- how many of each kind there can be
@@ -87,6 +89,7 @@ nothing =
       clock = 0;
       now = instant 0;
       begun = false;
+      file = record { running = Idle };
     }
 
 -- ---- a kernel with some parts changed
@@ -102,6 +105,7 @@ withState ts r is k =
       clock = k .clock;
       now = k .now;
       begun = k .begun;
+      file = k .file;
     }
 
 abbrev pub withPlaces : List ℕ → State → State
@@ -115,6 +119,7 @@ withPlaces ps k =
       clock = k .clock;
       now = k .now;
       begun = k .begun;
+      file = k .file;
     }
 
 abbrev pub withCounts : Counts → State → State
@@ -128,6 +133,7 @@ withCounts n k =
       clock = k .clock;
       now = k .now;
       begun = k .begun;
+      file = k .file;
     }
 
 abbrev pub withClock : ℕ → State → State
@@ -141,6 +147,22 @@ withClock t k =
       clock = t;
       now = k .now;
       begun = k .begun;
+      file = k .file;
+    }
+
+-- r is on file as the running task.
+abbrev pub withRunning : Running → State → State
+withRunning r k =
+    record {
+      tasks = k .tasks;
+      places = k .places;
+      locks = k .locks;
+      enabled = k .enabled;
+      counts = k .counts;
+      clock = k .clock;
+      now = k .now;
+      begun = k .begun;
+      file = record { running = r };
     }
 
 -- The kernel after an accepted call, at instant n.
@@ -155,4 +177,5 @@ begunAt n k =
       clock = k .clock;
       now = n;
       begun = true;
+      file = k .file;
     }

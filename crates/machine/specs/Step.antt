@@ -12,12 +12,12 @@ use Rattle.machine.specs.declared.Running.the-variants.{Idle}
 use Rattle.machine.specs.declared.Answer.{Answer}
 use Rattle.machine.specs.declared.Stepped.{Stepped}
 use Rattle.machine.specs.Sets.{noSets, withGranted}
-use Rattle.machine.specs.State.{withState, withPlaces, begunAt}
+use Rattle.machine.specs.State.{withState, withPlaces, withRunning, begunAt}
 use Rattle.machine.specs.Running.{runningOf, runner}
 use Rattle.machine.specs.Work.{Work}
 use Rattle.machine.specs.Serving.{serve}
 use Rattle.machine.specs.Places.{event, moved}
-use Rattle.machine.specs.Test.{valid}
+use Rattle.machine.specs.Test.{kernelRefusal}
 use Rattle.machine.specs.Sorts.{declares}
 use Rattle.machine.specs.Refusals.{formalRefusal, admitted, stateRefusal}
 use Rattle.machine.specs.Calls.{declaration, workOf}
@@ -31,29 +31,30 @@ unfoldable pub refuse : State → ℕ → Running → Stepped
 refuse k n r = record { state = k; answer = plainAnswer n r }
 
 -- Every accepted call ends so: the waiting tasks are served, those with an event go to the end of the order, and the
--- running task is found.
+-- running task is found and put on file.
 unfoldable pub finish : State → Work → Stepped
 finish k w =
     let n = k .counts .tasks in
     let p = serve n (k .places) n (record { tasks = w .tasks; locks = w .locks; granted = w .sets .granted }) in
     let ps = moved n (event (k .tasks) (p .tasks) (w .sets .started)) (k .places) in
+    let r = runningOf n ps (p .tasks) in
     record {
-      state = begunAt (w .now) (withPlaces ps (withState (p .tasks) (p .locks) (w .enabled) k));
-      answer =
-          record {
-            number = 0;
-            running = runningOf n ps (p .tasks);
-            sets = withGranted (p .granted) (w .sets);
-          };
+      state = begunAt (w .now) (withRunning r (withPlaces ps (withState (p .tasks) (p .locks) (w .enabled) k)));
+      answer = record { number = 0; running = r; sets = withGranted (p .granted) (w .sets) };
     }
 
--- An accepted declaration leaves the kernel d.
+-- An accepted declaration leaves the kernel d. The task that ran runs on, and is put on file.
 unfoldable pub declared : State → State → Stepped
-declared k d = record { state = d; answer = plainAnswer 0 (runner k) }
+declared k d = record { state = withRunning (runner k) d; answer = plainAnswer 0 (runner k) }
 
 abbrev pub orRefuse : State → ℕ → Stepped → Stepped
 orRefuse k zero s = s
 orRefuse k (suc n) s = refuse k (suc n) (runner k)
+
+-- Refusals 1 and 16: no task runs.
+abbrev pub orTurnAway : State → ℕ → Stepped → Stepped
+orTurnAway k zero s = s
+orTurnAway k (suc n) s = refuse k (suc n) Idle
 
 module _ (day : ℕ) where
   -- An accepted declaration or call.
@@ -65,13 +66,13 @@ module _ (day : ℕ) where
   unfoldable pub settle : State → Call → Stepped
   settle k c = let s = carryOut k c in orRefuse k (stateRefusal (c .head .mark) k c) s
 
-  -- A call or declaration that was read, on a kernel that passes the test.
+  -- A call or declaration that was read, on a kernel that isn't turned away.
   unfoldable pub carryOn : State → Call → Stepped
   carryOn k c = let s = settle k c in orRefuse k (formalRefusal day (k .counts) (k .begun) c) s
 
-  -- Refusal 1: no task runs.
+  -- 1 and 16 come first.
   abbrev pub tested : State → Stepped → Stepped
-  tested k s = cond (valid day k) s (refuse k 1 Idle)
+  tested k s = orTurnAway k (kernelRefusal day k) s
 
   -- The machine over calls and declarations that were read.
   unfoldable pub carry : State → Call → Stepped

@@ -1,4 +1,4 @@
--- The kernel test: what passes it isn't refused with 1. Places beyond the counts aren't looked at.
+-- Refusals 1 and 16: the kernel test, and the running task on file. Places beyond the counts aren't looked at.
 use mathlib.Core.Bool.{Bool, true, not, _&&_, _||_}
 use mathlib.Core.List.{List}
 use Prim.Native.Nat.{ℕ}
@@ -10,7 +10,7 @@ use Rattle.calendar.specs.declared.End.the-variants.{Open, Until, During}
 use Rattle.calendar.specs.declared.Moment.{Moment}
 use Rattle.calendar.specs.declared.Moment.the-variants.{Never, At}
 use Rattle.lists.specs.Lists.{distinct}
-use Rattle.record.specs.Refusals.{mostValue, mostNumbers}
+use Rattle.record.specs.Refusals.{mostValue, mostNumbers, unless}
 use Rattle.lock.specs.Locks.{waiting, every, valueAt, boltAt}
 use Rattle.schedule.specs.Alarms.{planned, pending, listening}
 use Rattle.schedule.specs.declared.Alarm.{Alarm}
@@ -25,6 +25,7 @@ use Rattle.machine.specs.declared.Counts.{Counts}
 use Rattle.machine.specs.declared.State.{State}
 use Rattle.machine.specs.Sums.{allBelow}
 use Rattle.machine.specs.State.{mostTasks, mostSemaphores, mostBolts, mostInterrupts, taskAt, placeAt, countOf}
+use Rattle.machine.specs.Running.{sameRunning, runner}
 use Rattle.machine.specs.Granting.{servable}
 
 -- ---- limits
@@ -118,6 +119,7 @@ nobodyServable k = allBelow (k .counts .tasks) (λ i. not (servable (k .counts .
 unfoldable pub placesOk : ℕ → List ℕ → Bool
 placesOk n ps = allBelow n (λ i. ltb (placeAt ps i) n && allBelow i (λ j. not (eqb (placeAt ps j) (placeAt ps i))))
 
+-- The kernel test: what passes it isn't refused with 1.
 unfoldable pub valid : ℕ → State → Bool
 valid day k =
     leb (k .now .0) lastInstant
@@ -128,3 +130,11 @@ valid day k =
     && allBelow (k .counts .tasks) (λ i. taskOk day (k .counts) (taskAt (k .tasks) i))
     && placesOk (k .counts .tasks) (k .places)
     && nobodyServable k
+
+-- The running task on file is the one that the rule gives.
+unfoldable pub filed : State → Bool
+filed k = sameRunning (k .file .running) (runner k)
+
+-- 1, 16 or 0: what the kernel handed in decides.
+unfoldable pub kernelRefusal : ℕ → State → ℕ
+kernelRefusal day k = unless (valid day k) 1 (unless (filed k) 16 0)

@@ -57,11 +57,17 @@ pub struct State {
     pub now: Instant,
     // Whether a call was accepted yet.
     pub begun: bool,
+    pub file: OnFile,
 }
 
 pub enum Running {
     Idle,
     Runs(u8),
+}
+
+// What a kernel has on file, so that nobody needs to look for it.
+pub struct OnFile {
+    pub running: Running,
 }
 
 // Sets of tasks, in which task i counts 2^i.

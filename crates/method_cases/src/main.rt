@@ -8,53 +8,15 @@ use calendar::End;
 use calendar::Instant;
 use calendar::Moment;
 use kernel::Kernel;
-use kernel::Reply;
-use kernel::StartCondition;
-use lines::line_at;
-use machine::Answer;
+use machine::OnFile;
+use machine::Running;
 use schedule::Alarm;
 use schedule::Plan;
 use schedule::Schedule;
-use serving::ends::plain;
+use showing::show;
+use showing::show_running;
+use showing::start;
 use task::Task;
-
-fn print_line(a: Answer) {
-    let mut out = io::buffer();
-    let n = line_at(a, &mut out, 0);
-    io::write_all(1, &out[..n]);
-}
-
-// Prints the line of a reply, unless it answers an accepted declaration, and hands its kernel on.
-fn show(r: Reply) -> Kernel
-    ensures { λ z. ⌜ z ≡ r .kernel ⌝ }
-{
-    let kernel = r.kernel;
-    let answer = r.answer;
-    if (answer.number != 0) | kernel.state.begun {
-        print_line(answer);
-    }
-    kernel
-}
-
-// Prints the running task as the line of an accepted call.
-fn show_running(kernel: Kernel) {
-    let running = kernel.running();
-    print_line(plain(0, running));
-}
-
-// A start of a kind with its first time, on interrupt 0, once.
-fn start(kind: u8, first: u32) -> StartCondition
-    ensures { λ r. ⌜ r ≡ record { kind = kind; interrupt = 0; endkind = 0; first = first; period = 0; endtime = 0 } ⌝ }
-{
-    StartCondition {
-        kind,
-        interrupt: 0,
-        endkind: 0,
-        first,
-        period: 0,
-        endtime: 0,
-    }
-}
 
 // Two tasks ask for a semaphore and a bolt.
 fn locks() {
@@ -160,7 +122,7 @@ fn beyond_limits() {
 }
 
 // Places written into a kernel with two equal tasks: one taken twice, one out of range, one of an undeclared task, and
-// both exchanged.
+// both exchanged, with the task on file that runs then.
 fn other_places() {
     let mut kernel = Kernel::fresh();
     kernel = show(kernel.declare_task(5));
@@ -180,6 +142,10 @@ fn other_places() {
     k = kernel.state;
     k.places[0] = 1;
     k.places[1] = 0;
+    let file = OnFile {
+        running: Running::Runs(1),
+    };
+    k.file = file;
     show(Kernel { state: k }.tick());
 }
 
@@ -207,7 +173,7 @@ fn odd_schedule() {
 }
 
 // The last of an armed schedule isn't looked at, the end of one that waits for its next due is. Then the kernel fails
-// the test, and its running task is the rule's.
+// the test, and its running task is the one on file.
 fn stored_ends() {
     let mut kernel = Kernel::fresh();
     kernel = show(kernel.declare_task(5));

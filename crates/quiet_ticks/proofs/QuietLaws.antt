@@ -1,5 +1,5 @@
 -- A tick before the next event, and the bytes of a tick.
-use mathlib.Core.Path.{_≡_, refl, sym}
+use mathlib.Core.Path.{_≡_, refl, sym, ap, _∙_}
 use mathlib.Core.Bool.{Bool, true, false, _&&_}
 use mathlib.Core.List.{List, [], _∷_}
 use Prim.Native.Nat.{ℕ, zero, suc, _<_}
@@ -17,23 +17,26 @@ use Rattle.lists.specs.Lists.{allZero}
 use Rattle.machine.specs.NextEvent.{nextEvent}
 use Rattle.machine.specs.Scripts.{oneTick}
 use Rattle.machine.specs.State.{mostTasks, begunAt}
-use Rattle.machine.specs.Running.{runner}
 use Rattle.machine.specs.Step.{refuse, step}
-use Rattle.machine.specs.Test.{valid}
+use Rattle.machine.specs.Test.{kernelRefusal}
 use Rattle.machine.specs.declared.Running.{Running}
 use Rattle.machine.specs.declared.State.{State}
+use Rattle.machine.proofs.Filing.{taken-filed}
 use Rattle.machine.proofs.NextEvent.{next-is-next}
 use Rattle.machine.proofs.Quiet.{quiet-step}
 use Rattle.quiet_ticks.specs.Stirring.{isTick}
 
--- A tick before the next event: n and r are what was said of the next instant and the runner.
+-- A tick before the next event: n is what was said of the next instant.
 pub quiet-tick :
-    (day : ℕ) (k : State) → length (k .tasks) ≡ mostTasks → valid day k ≡ true
+    (day : ℕ) (k : State) → length (k .tasks) ≡ mostTasks → kernelRefusal day k ≡ 0
     → before (plus (k .now) (duration tick)) (nextEvent k) ≡ true → k .now .0 < lastInstant
-    → {r : Running} {n : Instant} → r ≡ runner k → n ≡ plus (k .now) (duration 1)
-    → refuse (begunAt n k) 0 r ≡ step day k oneTick
+    → {n : Instant} → n ≡ plus (k .now) (duration 1)
+    → refuse (begunAt n k) 0 (k .file .running) ≡ step day k oneTick
 unfolding refuse
-quiet-tick day k room v q l e m = rw (e, m) (sym (quiet-step day k room v (next-is-next k .quiet 1 q) l))
+quiet-tick day k room v q l m =
+    rw m
+    (ap (λ (r : Running). refuse (begunAt (plus (k .now) (duration 1)) k) 0 r) (taken-filed day k v)
+    ∙ sym (quiet-step day k room v (next-is-next k .quiet 1 q) l))
 
 -- ---- the bytes of a tick
 

@@ -6,15 +6,13 @@ ghost use Rattle.calendar.specs.Limits.{day, tick, lastInstant};
 ghost use Rattle.calendar.specs.Times.{duration, plus};
 ghost use Rattle.calendar.specs.Moments.{before};
 ghost use Rattle.machine.specs.NextEvent.{nextEvent};
-ghost use Rattle.machine.specs.Running.{runner};
 ghost use Rattle.machine.specs.Scripts.{oneTick};
 ghost use Rattle.machine.specs.Step.{step};
-ghost use Rattle.machine.specs.Test.{valid};
+ghost use Rattle.machine.specs.Test.{kernelRefusal};
 ghost use Rattle.quiet_ticks.specs.Stirring.{isTick};
 use calendar::Duration;
 use layout::RECORD_LENGTH;
 use lists::zeros;
-use machine::Running;
 use machine::State;
 use machine::Stepped;
 use serving::ends::answered;
@@ -37,13 +35,14 @@ pub fn is_tick(s: &[u8]) -> bool
 }
 
 // A tick before the next event only moves the instant.
-pub fn quiet_tick(k: State, r: Running) -> Stepped
-    requires { ⌜ valid day k ≡ true ⌝ }
-    requires { ⌜ r ≡ runner k ⌝ }
+pub fn quiet_tick(k: State) -> Stepped
+    requires { ⌜ kernelRefusal day k ≡ 0 ⌝ }
     requires { ⌜ before (plus (k .now) (duration tick)) (nextEvent k) ≡ true ⌝ }
     requires { ⌜ k .now .0 < lastInstant ⌝ }
     ensures { λ z. ⌜ z ≡ step day k oneTick ⌝ }
 {
     let now = k.now;
+    let file = k.file;
+    let r = file.running;
     answered(begun_at(k, now.plus(Duration(1))), 0, r)
 }

@@ -36,6 +36,7 @@ use Rattle.machine.proofs.Cases.{out-cases, step-cases}
 use Rattle.machine.proofs.Passed.{passed, tested}
 use Rattle.machine.proofs.Serving.{serve-keeps}
 use Rattle.machine.proofs.SetLaws.{members-each, each-regranted, only-lt, put-lt, setOf-lt}
+use Rattle.machine.proofs.Filing.{taken-valid}
 use Rattle.machine.proofs.Urgency.{Below, runner-below}
 use Rattle.lines.specs.Lines.{RunningByte, InTypes}
 
@@ -132,9 +133,9 @@ module _ (k : State) where
     in-out day c e =
         out-cases day k c (λ z. InTypes (z .answer)) (λ d. in-declared _) (λ d. in-finish _ (sized-work day c (sortOf (c .head .mark)) e))
 
-in-first : (k : State) → InTypes (refuse k 1 Idle .answer)
+in-idle : (k : State) (n : ℕ) → n ≤ 16 → InTypes (refuse k n Idle .answer)
 unfolding refuse
-in-first k =
+in-idle k n h =
     record {
       number = omega arith;
       running = tt;
@@ -143,5 +144,6 @@ in-first k =
 
 pub answer-in-types : (day : ℕ) (k : State) (s : List ℕ) → InTypes (step day k s .answer)
 answer-in-types day k =
-    step-cases day k (λ t. InTypes (t .answer)) (λ v. in-first k) (λ v n a b. in-plain k (tested day k v .fits .tasks) n b)
-    (λ v c e. in-out k (tested day k v .fits .tasks) day c (passed day k c e .formal .known))
+    step-cases day k (λ t. InTypes (t .answer)) (λ v. in-idle k 1 (omega arith)) (λ v m. in-idle k 16 (omega arith))
+    (λ v n a b. in-plain k (tested day k (taken-valid day k v) .fits .tasks) n b)
+    (λ v c e. in-out k (tested day k (taken-valid day k v) .fits .tasks) day c (passed day k c e .formal .known))

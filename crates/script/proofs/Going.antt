@@ -1,5 +1,6 @@
 -- What holds at the head of the script's loop, and what a turn makes of it.
-use mathlib.Core.Path.{_≡_, refl, sym, _∙_}
+use mathlib.Core.Path.{_≡_, refl, sym, ap, _∙_}
+use mathlib.Core.Logic.{_≢_}
 use mathlib.Core.Bool.{Bool, true, false, _&&_}
 use mathlib.Core.List.{List, [], _++_, append-nil}
 use Prim.Native.Nat.{ℕ, suc, _+_, _-_, _≤_, _<_, min}
@@ -7,7 +8,7 @@ use native.Mathlib.Omega.{arith}
 use lib.Dec.{leb, ltb}
 use lib.ListN.{length, take, drop, length-take, List·getD-eq-default}
 use lib.Seq.{getD-take, getD-drop}
-use borrow.Author.Tests.{leb-true, leb-false, ltb-true, ltb-false}
+use borrow.Author.Tests.{leb-true, leb-false, ltb-true, ltb-false, ne-eqb}
 use Rattle.calendar.specs.Limits.{day, lastInstant}
 use Rattle.calendar.specs.Times.{duration, plus}
 use Rattle.calendar.specs.Moments.{upTo}
@@ -17,20 +18,19 @@ use Rattle.lock.proofs.Bools.{byBool, both}
 use Rattle.machine.specs.Invariants.{IsDay, Tables}
 use Rattle.machine.specs.NextEvent.{nextEvent}
 use Rattle.machine.specs.Quiet.{Quiet}
-use Rattle.machine.specs.Running.{runner}
 use Rattle.machine.specs.State.{mostTasks, begunAt}
-use Rattle.machine.specs.Step.{plainAnswer, step}
-use Rattle.machine.specs.Test.{valid}
+use Rattle.machine.specs.Step.{plainAnswer, refuse, step}
+use Rattle.machine.specs.Test.{kernelRefusal}
 use Rattle.machine.specs.declared.State.{State}
 use Rattle.machine.specs.declared.Running.{Running}
 use Rattle.machine.specs.declared.Running.the-variants.{Idle}
 use Rattle.machine.specs.declared.Stepped.{Stepped}
 use Rattle.machine.proofs.NextEvent.{next-is-next}
-use Rattle.machine.proofs.Quiet.{quiet-step, still-valid}
+use Rattle.machine.proofs.Filing.{taken-filed}
+use Rattle.machine.proofs.Quiet.{quiet-step, still-taken}
 use Rattle.machine.proofs.Invariants.{step-passes}
 use Rattle.machine.proofs.Facts.{StateOk, ok-of-passes}
-use Rattle.machine.proofs.Answers.{answers-runner}
-use Rattle.machine.proofs.Refused.{untested-refused}
+use Rattle.changes.proofs.CallLaws.{step-away}
 use Rattle.lines.specs.Buffers.{placed, Wrote}
 use Rattle.lines.specs.Lines.{line, longestLine}
 use Rattle.lines.proofs.PlacedLaws.{then}
@@ -69,7 +69,7 @@ still-next k e d l =
     (omega arith, next-is-next k .quiet d (p .1))
 
 -- The text so far, and what is carried on from here gives the whole.
-pub record Going (bytes before : List ℕ) (start : State) (ok : Bool) (buffer : List ℕ) (k : State) (r : Running) (quiet at fill : ℕ) : Type 0 where
+pub record Going (bytes before : List ℕ) (start : State) (number : ℕ) (buffer : List ℕ) (k : State) (quiet at fill : ℕ) : Type 0 where
   pub text : List ℕ
   pub wrote : Wrote before 0 text buffer fill
   pub room : fill ≤ length before
@@ -77,27 +77,26 @@ pub record Going (bytes before : List ℕ) (start : State) (ok : Bool) (buffer :
   pub within : at ≤ length bytes
   pub octets : Octets bytes
   pub tables : Tables k
-  pub tested : ok ≡ valid day k
-  pub runs : ok ≡ true → r ≡ runner k
-  pub still : ok ≡ true → Still quiet k
+  pub tested : number ≡ kernelRefusal day k
+  pub still : number ≡ 0 → Still quiet k
   pub rest : carried day (goingOn start) (records bytes) (length before) ≡ afterText text (carried day (goingOn k) (records (drop at bytes)) (length before - fill))
 
 -- The loop's test: there is a next record, and room for a longest line.
 abbrev pub goes : List ℕ → List ℕ → ℕ → ℕ → Bool
 goes bytes buffer at fill = ltb at (length bytes) && leb longestLine (length buffer - fill)
 
-module _ {bytes before : List ℕ} {start : State} {ok : Bool} {buffer : List ℕ} {k : State} {r : Running} {quiet at fill : ℕ}
-    (g : Going bytes before start ok buffer k r quiet at fill) where
-  pub good : ok ≡ true → valid day k ≡ true
+module _ {bytes before : List ℕ} {start : State} {number : ℕ} {buffer : List ℕ} {k : State} {quiet at fill : ℕ}
+    (g : Going bytes before start number buffer k quiet at fill) where
+  pub good : number ≡ 0 → kernelRefusal day k ≡ 0
   good o = sym (g .tested) ∙ o
 
-  ok-of : ok ≡ true → StateOk day k
+  ok-of : number ≡ 0 → StateOk day k
   ok-of o = ok-of-passes day k (record { tables = g .tables; tested = good o })
 
-  pub early : ok ≡ true → k .now .0 ≤ lastInstant
+  pub early : number ≡ 0 → k .now .0 ≤ lastInstant
   early o = ok-of o .now-ok
 
-  pub few : ok ≡ true → k .counts .tasks ≤ mostTasks
+  pub few : number ≡ 0 → k .counts .tasks ≤ mostTasks
   few o = ok-of o .counts-ok .tasks
 
   -- What is left has no room, or there is nothing left.
@@ -135,11 +134,11 @@ module _ {bytes before : List ℕ} {start : State} {ok : Bool} {buffer : List �
   module _ (to : ℕ) (on : goes bytes buffer at fill ≡ true) (e : to ≡ min (at + recordLength) (length bytes))
       {buffer′ : List ℕ} {fill′ : ℕ} where
     -- One record more, with the machine's step z on it and z's line.
-    turned : {r′ : Running} {quiet′ : ℕ} (z : Stepped) → z ≡ step day k (part bytes at to)
+    turned : {quiet′ : ℕ} (z : Stepped) → z ≡ step day k (part bytes at to)
         → Wrote buffer fill (shown (says z) (z .answer)) buffer′ fill′ → fill′ ≤ fill + longestLine → length buffer′ ≡ length buffer
-        → Tables (z .state) → ok ≡ valid day (z .state) → (ok ≡ true → r′ ≡ runner (z .state)) → (ok ≡ true → Still quiet′ (z .state))
-        → Going bytes before start ok buffer′ (z .state) r′ quiet′ to fill′
-    turned z m w n b s v u q =
+        → Tables (z .state) → number ≡ kernelRefusal day (z .state) → (number ≡ 0 → Still quiet′ (z .state))
+        → Going bytes before start number buffer′ (z .state) quiet′ to fill′
+    turned z m w n b s v q =
         let t : List ℕ = shown (says z) (z .answer) in
         let p : printed (part bytes at to) (step day k (part bytes at to) .answer) ≡ t = unfold printed in rw (says-line day k (part bytes at to), ← m) in
         let d : length before - fill - length t ≡ length before - fill′ = omega (arith, w .place) in
@@ -152,7 +151,6 @@ module _ {bytes before : List ℕ} {start : State} {ok : Bool} {buffer : List �
           octets = g .octets;
           tables = s;
           tested = v;
-          runs = u;
           still = q;
           rest =
               g .rest
@@ -160,44 +158,46 @@ module _ {bytes before : List ℕ} {start : State} {ok : Bool} {buffer : List �
               (after-after (g .text) t _);
         }
 
-    -- A kernel that fails the test is refused, and stays.
-    pub refused : ok ≡ false → Wrote buffer fill (line (plainAnswer 1 Idle)) buffer′ fill′ → fill′ ≤ fill + longestLine → length buffer′ ≡ length buffer
-        → Going bytes before start ok buffer′ k r quiet to fill′
+    -- A kernel turned away stays.
+    pub refused : number ≢ 0 → Wrote buffer fill (line (plainAnswer number Idle)) buffer′ fill′ → fill′ ≤ fill + longestLine → length buffer′ ≡ length buffer
+        → Going bytes before start number buffer′ k quiet to fill′
+    unfolding refuse
     refused o w n b =
-        turned (record { state = k; answer = plainAnswer 1 Idle }) (sym (untested-refused day k (part bytes at to) (sym (g .tested) ∙ o))) w n b (g .tables) (g .tested)
-        (g .runs) (g .still)
+        turned (record { state = k; answer = plainAnswer number Idle }) (step-away day k (part bytes at to) (g .tested) o) (rw (ne-eqb number 0 o) w) n b
+        (g .tables) (g .tested) (g .still)
 
-    module _ (o : ok ≡ true) where
+    module _ (o : number ≡ 0) where
       -- Before the next event a tick only moves the present.
       pub moved : (q : ℕ) → Still q k → isTick (part bytes at to) ≡ true → k .now .0 + 1 < q
-          → Wrote buffer fill (line (plainAnswer 0 r)) buffer′ fill′ → fill′ ≤ fill + longestLine → length buffer′ ≡ length buffer
-          → Going bytes before start ok buffer′ (begunAt (plus (k .now) (duration 1)) k) r q to fill′
+          → Wrote buffer fill (line (plainAnswer 0 (k .file .running))) buffer′ fill′ → fill′ ≤ fill + longestLine → length buffer′ ≡ length buffer
+          → Going bytes before start number buffer′ (begunAt (plus (k .now) (duration 1)) k) q to fill′
       moved q s t j w n b =
           let i = s 1 j .0 in
-          let z : Stepped = record { state = begunAt (plus (k .now) (duration 1)) k; answer = plainAnswer 0 r } in
+          let z : Stepped = record { state = begunAt (plus (k .now) (duration 1)) k; answer = plainAnswer 0 (k .file .running) } in
           let m : z ≡ step day k (part bytes at to) =
-          rw (tick-bytes (part bytes at to) t, g .runs o)
-          (sym (quiet-step day k (g .tables .tasks) (good o) (s 1 j .1) (omega arith))) in
-          let v : valid day (z .state) ≡ true = still-valid day k (plus (k .now) (duration 1)) (omega arith) (omega arith) (good o) in
+          rw (tick-bytes (part bytes at to) t)
+          (ap (λ (x : Running). record { state = begunAt (plus (k .now) (duration 1)) k; answer = plainAnswer 0 x }) (taken-filed day k (good o))
+          ∙ sym (quiet-step day k (g .tables .tasks) (good o) (s 1 j .1) (omega arith))) in
+          let v = still-taken day k (plus (k .now) (duration 1)) (omega arith) (omega arith) (good o) in
           turned z m w n b
           (record { tasks = g .tables .tasks; places = g .tables .places; semaphores = g .tables .semaphores; bolts = g .tables .bolts; enabled = g .tables .enabled })
-          (o ∙ sym v) (g .runs)
+          (o ∙ sym v)
           (λ _ d l. let p = s (suc d) (omega arith) in (omega arith, λ c m x a b. p .1 c m x (omega arith) (omega arith)))
 
       -- Any other record.
       pub stepped : (z : Stepped) → z ≡ step day k (part bytes at to)
           → Wrote buffer fill (shown (says z) (z .answer)) buffer′ fill′ → fill′ ≤ fill + longestLine → length buffer′ ≡ length buffer
-          → Going bytes before start ok buffer′ (z .state) (z .answer .running) 0 to fill′
+          → Going bytes before start number buffer′ (z .state) 0 to fill′
       stepped z m w n b =
           let p = step-passes day isDay k (record { tables = g .tables; tested = good o }) (part bytes at to) (octets-part bytes at to (g .octets)) in
-          turned z m w n b (rw m (p .tables)) (o ∙ sym (rw m (p .tested))) (λ _. rw m (answers-runner day k (part bytes at to) (good o)))
+          turned z m w n b (rw m (p .tables)) (o ∙ sym (rw m (p .tested)))
           (λ _ d l. absurd (omega arith))
 
 -- Where the loop begins.
-pub started : (bytes before : List ℕ) (k : State) (ok : Bool) (r : Running) (q : ℕ) → Octets bytes → Tables k → ok ≡ valid day k → (valid day k ≡ true → r ≡ runner k)
-    → (valid day k ≡ true → Still q k) → Going bytes before k ok before k r q 0 0
+pub started : (bytes before : List ℕ) (k : State) (number : ℕ) (q : ℕ) → Octets bytes → Tables k → number ≡ kernelRefusal day k
+    → (kernelRefusal day k ≡ 0 → Still q k) → Going bytes before k number before k q 0 0
 unfolding placed
-started bytes before k ok r q o t v u s =
+started bytes before k number q o t v s =
     let d : length before - 0 ≡ length before = omega arith in
     record {
       text = [];
@@ -208,7 +208,6 @@ started bytes before k ok r q o t v u s =
       octets = o;
       tables = t;
       tested = v;
-      runs = λ e. u (sym v ∙ e);
       still = λ e. s (sym v ∙ e);
       rest = rw d;
     }

@@ -12,12 +12,13 @@ use Rattle.machine.specs.Sorts.{declares}
 use Rattle.machine.specs.Calls.{addTask, addSemaphore, addBolt, addInterrupt, declaration}
 use Rattle.machine.specs.Step.{refuse, finish, declared, orRefuse, carryOut, carryOn, step}
 use Rattle.machine.specs.Log.{isDeclaration}
-use Rattle.machine.specs.Test.{valid}
+use Rattle.record.specs.Reading.{opened}
+use Rattle.machine.specs.Test.{kernelRefusal}
 use Rattle.machine.specs.declared.State.{State}
 use Rattle.machine.specs.declared.Stepped.{Stepped}
 use Rattle.machine.proofs.Passed.{refusalOf, passed}
 use Rattle.machine.proofs.Cases.{opened-cases, out-cases, done-number, declaration-cases, carried-by, stepOpened, step-on}
-use Rattle.machine.proofs.Refused.{untested-refused}
+use Rattle.machine.proofs.Refused.{turned-away}
 use Rattle.lock.proofs.Bools.{byBool, contra}
 use Rattle.script.specs.Printed.{silent}
 
@@ -55,10 +56,11 @@ says-read day k c = rw (carried-by day k c) (go (refusalOf day k c) refl)
 -- A line is printed for all but accepted declarations, by whether the kernel after the step has begun.
 pub says-line : (day : ℕ) (k : State) (s : List ℕ) → not (silent s (step day k s .answer)) ≡ says (step day k s)
 unfolding silent
-says-line day k s =
-    byBool (valid day k)
-    (λ v.
-    rw (step-on day k s v)
-    (opened-cases s (λ o. not (eqb (stepOpened day k (o .answer) (o .list) .answer .number) 0 && isDeclaration (o .answer)) ≡ says (stepOpened day k (o .answer) (o .list)))
-    (unfold refuse in refl) (says-read day k)))
-    (λ v. rw (untested-refused day k s v))
+says-line day k s = go (kernelRefusal day k) refl
+  where
+    go : (n : ℕ) → kernelRefusal day k ≡ n → not (eqb (step day k s .answer .number) 0 && isDeclaration (opened s .answer)) ≡ says (step day k s)
+    go zero v =
+        rw (step-on day k s v)
+        (opened-cases s (λ o. not (eqb (stepOpened day k (o .answer) (o .list) .answer .number) 0 && isDeclaration (o .answer)) ≡ says (stepOpened day k (o .answer) (o .list)))
+        (unfold refuse in refl) (says-read day k))
+    go (suc n) v = rw (turned-away day n k s v, ne-eqb (suc n) 0 (λ q. omega arith))

@@ -7,7 +7,7 @@ use lib.ListN.{length, drop, length-drop}
 use Rattle.calendar.specs.Limits.{day}
 use Rattle.machine.specs.State.{nothing}
 use Rattle.machine.specs.Log.{final, log}
-use Rattle.machine.proofs.Computing.{computed}
+use Rattle.cases.proofs.Computing.{computed}
 use Rattle.lines.specs.Decimals.{spelt, decimal}
 use Rattle.lines.specs.Lines.{runningText, setsText, line}
 use Rattle.script.specs.Records.{cut, records}

@@ -23,6 +23,7 @@ use machine::Running;
 use quiet_ticks::is_tick;
 use serving::ends::begun_at;
 use serving::ends::plain;
+use urgency::file::kernel_refusal;
 
 pub const LONGEST_LINE: usize = 63;
 
@@ -66,7 +67,10 @@ pub fn run(script: Script, bytes: &[u8], out: &mut [u8]) -> Ran
 {
     let mut k = script.kernel.state;
     let v = survey(k);
-    let mut r = v.runner;
+    let file = k.file;
+    let stored = file.running;
+    let found = v.runner;
+    let refusal = kernel_refusal(v.ok, stored, found);
     let next = v.next;
     let mut quiet = next.up_to(LAST_INSTANT + 1);
     let mut at = 0;
@@ -75,8 +79,8 @@ pub fn run(script: Script, bytes: &[u8], out: &mut [u8]) -> Ran
         let to = end_of(at, bytes.len());
         let rec = &bytes[at..to];
         at = to;
-        if !v.ok {
-            fill = line_at(plain(1, Running::Idle), out, fill);
+        if refusal != 0 {
+            fill = line_at(plain(refusal, Running::Idle), out, fill);
             continue;
         }
         let now = k.now;
@@ -85,14 +89,15 @@ pub fn run(script: Script, bytes: &[u8], out: &mut [u8]) -> Ran
             quiet = next_event(k).up_to(LAST_INSTANT + 1);
         }
         if tick & (now.0 + 1 < quiet) {
+            let file = k.file;
+            let r = file.running;
             k = begun_at(k, now.plus(Duration(1)));
             fill = line_at(plain(0, r), out, fill);
             continue;
         }
-        let z = step_on(k, rec, r);
+        let z = step_on(k, rec);
         let a = z.answer;
         k = z.state;
-        r = a.running;
         quiet = 0;
         fill = line_if((a.number != 0) | k.begun, a, out, fill);
     }

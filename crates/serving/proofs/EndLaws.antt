@@ -13,7 +13,7 @@ use Rattle.machine.specs.Places.{event, moved}
 use Rattle.machine.specs.Running.{mostUrgent, runningOf}
 use Rattle.machine.specs.Serving.{nextServed}
 use Rattle.machine.specs.Sets.{holds, withGranted}
-use Rattle.machine.specs.State.{mostTasks, withPlaces, begunAt}
+use Rattle.machine.specs.State.{mostTasks, withPlaces, withRunning, begunAt}
 use Rattle.machine.specs.Step.{finish}
 use Rattle.machine.specs.Test.{placesOk}
 use Rattle.machine.specs.declared.Running.the-variants.{Idle}
@@ -89,7 +89,7 @@ pub settled-ends : (k : State) (m : Sets) → k .counts .tasks ≤ mostTasks →
     → (now : State) (granted : ℕ) (lead : Lead) (after : Standing) → Settled k (m .granted) before (m .started) now granted lead after
     → (events : ℕ) → ((us : List Task) → Stands (k .counts .tasks) us after → (i : ℕ) → i < k .counts .tasks → holds i events ≡ event ts us (m .started) i)
     → (places : List ℕ) → places ≡ moved (k .counts .tasks) (λ i. holds i events) (now .places)
-    → record { state = begunAt (now .now) (withPlaces places now); answer = answerOf 0 (whose lead) (withGranted granted m) }
+    → record { state = begunAt (now .now) (withRunning (whose lead) (withPlaces places now)); answer = answerOf 0 (whose lead) (withGranted granted m) }
     ≡ finish (asBefore ts k) (workHere k m)
 unfolding finish servedOf runningOf
 settled-ends k m fits ok long ts before b now granted lead after s events ev places p =

@@ -24,7 +24,7 @@ use Rattle.task.specs.declared.Turn.{Turn}
 use Rattle.task.proofs.Fairness.{rest-facts}
 use Rattle.task.proofs.Waits.{SameWait, NoNewWait, no-wait-tick, tick-keeps-wait}
 use Rattle.machine.specs.Sets.{setOf, mark, eachSet, noSets}
-use Rattle.machine.specs.State.{mostTasks, taskAt, enabledAt, withState, begunAt, withPlaces}
+use Rattle.machine.specs.State.{mostTasks, taskAt, enabledAt, withState, begunAt, withPlaces, withRunning}
 use Rattle.machine.specs.Work.{onlyEnabled, turns, everyTurn}
 use Rattle.machine.specs.Running.{runner, runningOf}
 use Rattle.machine.specs.Serving.{nextServed}
@@ -260,7 +260,7 @@ everyEvent k n f = event (k .tasks) (everyTurn k n f .tasks) (everyTurn k n f .s
 pub every-unserved : (k : State) (n : Instant) (f : Task → Turn) {next now : State} {s : Sets} {ps : List ℕ} {r : Running}
     → next ≡ everyDone k n f → s ≡ everyTurn k n f .sets → nextServed (k .counts .tasks) (k .places) (served (everyDone k n f) 0) ≡ Idle
     → ps ≡ moved (k .counts .tasks) (everyEvent k n f) (k .places) → r ≡ runningOf (k .counts .tasks) ps (everyTurn k n f .tasks)
-    → now ≡ withPlaces ps next → record { state = begunAt n now; answer = answerOf 0 r s } ≡ finish k (everyTurn k n f)
+    → now ≡ withPlaces ps next → record { state = begunAt n (withRunning r now); answer = answerOf 0 r s } ≡ finish k (everyTurn k n f)
 unfolding finish servedOf everyTurn
 every-unserved k n f a b h o e q = rw (q, a, b, e, o, served-idle (everyDone k n f) (everyTurn k n f .sets .granted) h)
 
@@ -268,7 +268,7 @@ every-unserved k n f a b h o e q = rw (q, a, b, e, o, served-idle (everyDone k n
 pub every-served : (k : State) (n : Instant) (f : Task → Turn) {next : State} {s : Sets} {z : Stepped} {next′ : State} {s′ : Sets} {r : Running}
     → next ≡ everyDone k n f → s ≡ everyTurn k n f .sets → z ≡ finish (asBefore (k .tasks) next) (workHere next s)
     → next′ ≡ z .state → s′ ≡ z .answer .sets → r ≡ z .answer .running
-    → record { state = begunAt n next′; answer = answerOf 0 r s′ } ≡ finish k (everyTurn k n f)
+    → record { state = begunAt n (withRunning r next′); answer = answerOf 0 r s′ } ≡ finish k (everyTurn k n f)
 unfolding finish everyTurn
 every-served k n f a b e x y q = rw (x, y, q, e, a, b)
 

@@ -14,6 +14,7 @@ ghost use Rattle.serving.specs.Ends.{Rounded, asBefore, workHere, answer
 use calendar::Instant;
 use lock::is_waiting;
 use machine::Answer;
+use machine::OnFile;
 use machine::Running;
 use machine::Sets;
 use machine::State;
@@ -143,9 +144,12 @@ pub fn finished(mut k: State, m: Sets, turned: Standing) -> Stepped
     }
     let places = moved(k.places, counts.tasks, events_of(before, after, m.started));
     k.places = places;
+    let running = lead.who();
+    let file = OnFile { running };
+    k.file = file;
     Stepped {
         state: begun_at(k, k.now),
-        answer: answer_of(0, lead.who(), Sets { granted, ..m }),
+        answer: answer_of(0, running, Sets { granted, ..m }),
     }
 }
 

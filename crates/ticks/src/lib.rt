@@ -17,6 +17,7 @@ use calendar::Instant;
 use calendar::LAST_INSTANT;
 use lock::Wait;
 use lock::is_waiting;
+use machine::OnFile;
 use machine::Running;
 use machine::State;
 use machine::Stepped;
@@ -115,6 +116,8 @@ pub fn ticked(mut k: State, r: Running) -> Stepped
         let places = moved(k.places, counts.tasks, turned);
         k.places = places;
     }
+    let file = OnFile { running: runner };
+    k.file = file;
     Stepped {
         state: begun_at(k, n),
         answer: answer_of(0, runner, s),

@@ -1,6 +1,6 @@
 -- The lead of a scan is that of the most urgent task, of those that pass a test.
 use mathlib.Core.Path.{_≡_, refl, sym, _∙_, ap}
-use mathlib.Core.Bool.{Bool, true, false, and-false}
+use mathlib.Core.Bool.{Bool, true, false, not, and-false}
 use mathlib.Core.List.{List}
 use Prim.Native.Nat.{ℕ, zero, suc, _+_, _≤_, _<_, min}
 use native.Mathlib.Nat.{min-eq-left, min-eq-right}
@@ -14,7 +14,7 @@ use Rattle.task.specs.State.{noTask, runnable}
 use Rattle.task.specs.declared.Task.{Task}
 use Rattle.machine.specs.State.{mostTasks, taskAt}
 use Rattle.machine.specs.Sets.{holds}
-use Rattle.machine.specs.Running.{urgency, better, mostUrgent}
+use Rattle.machine.specs.Running.{urgency, better, mostUrgent, sameRunning, someone}
 use Rattle.machine.specs.declared.Running.{Running}
 use Rattle.machine.specs.declared.Running.the-variants.{Idle, Runs}
 use Rattle.machine.proofs.SetLaws.{has-empty}
@@ -96,3 +96,8 @@ module _ (ts : List Task) (u : ℕ → ℕ) where
 pub nobody-late : (ps : List ℕ) (ts : List Task) (i : ℕ) → urgencyThen (λ j. holds j 0) ps ts i ≡ urgency ps ts i
 unfolding urgencyThen urgency
 nobody-late ps ts i = rw (has-empty i)
+
+-- Nobody runs where nobody did.
+pub same-idle : (b : Running) → not (someone b) ≡ sameRunning Idle b
+same-idle Idle = refl
+same-idle (Runs i) = refl

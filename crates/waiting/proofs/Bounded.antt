@@ -7,7 +7,7 @@ use native.Mathlib.Omega.{arith}
 use borrow.Author.Tests.{ne-eqb}
 use Rattle.lock.specs.Locks.{bit}
 use Rattle.lock.proofs.Bools.{byBool, bit-le}
-use Rattle.machine.specs.Test.{valid}
+use Rattle.machine.specs.Test.{kernelRefusal}
 use Rattle.machine.specs.Step.{step}
 use Rattle.machine.specs.Log.{AllOctets}
 use Rattle.machine.specs.Invariants.{IsDay, Passes}
@@ -58,7 +58,7 @@ nobody-gets-ahead day isDay k p b o j s a u left =
 -- ---- one stage after the other
 
 -- The running task of each answer is that of the kernel handed back with it.
-pub stages-next : (day : ℕ) (k : State) → valid day k ≡ true → (b : List ℕ) (bs : List (List ℕ))
+pub stages-next : (day : ℕ) (k : State) → kernelRefusal day k ≡ 0 → (b : List ℕ) (bs : List (List ℕ))
     → stages day k (b ∷ bs) ≡ stageOf day k b ∷ stages day (step day k b .state) bs
 unfolding stagesFrom
 stages-next day k v b bs = ap (λ r. stageOf day k b ∷ stagesFrom day r (step day k b .state) bs) (answers-runner day k b v)

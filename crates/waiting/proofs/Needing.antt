@@ -14,7 +14,7 @@ use Rattle.machine.specs.Log.{AllOctets, final}
 use Rattle.machine.specs.Invariants.{Passes}
 use Rattle.machine.specs.Scripts.{activate, terminate, request, release, CONTINUE_PRIO_}
 use Rattle.machine.specs.Sums.{sumBelow}
-use Rattle.machine.proofs.Computing.{computed}
+use Rattle.cases.proofs.Computing.{computed}
 use Rattle.machine.proofs.Invariants.{is-day}
 use Rattle.machine.proofs.Unholding.{final-passes}
 use Rattle.machine.proofs.Taking.{nothing-passes}

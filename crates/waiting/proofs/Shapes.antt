@@ -15,6 +15,7 @@ use Rattle.machine.specs.Step.{refuse, finish, declared, carryOut, step}
 use Rattle.machine.specs.Invariants.{IsDay, Passes}
 use Rattle.machine.specs.Continuing.{Accepts}
 use Rattle.machine.specs.declared.State.{State}
+use Rattle.machine.proofs.Filing.{taken-valid}
 use Rattle.machine.proofs.Opened.{opened-priority}
 use Rattle.machine.proofs.Passed.{passed}
 use Rattle.machine.proofs.Facts.{ok-of-passes}
@@ -44,5 +45,5 @@ module _ (day : ℕ) (isDay : IsDay day) (k : State) (p : Passes day k) (s : Lis
       byEq (step day k s .answer .number) 0
       (λ e. opened-cases s (λ r. opened s ≡ r → Shape day k s)
       (λ q. absurd (let z = rw (step-on day k s (p .tested), q) at e in omega arith))
-      (λ c q. accepted-shape c (record { tested = p .tested; opens = q; number = e })) refl)
+      (λ c q. accepted-shape c (record { tested = taken-valid day k (p .tested); opens = q; number = e })) refl)
       (λ e. Shape.refuses e)

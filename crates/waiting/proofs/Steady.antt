@@ -46,6 +46,7 @@ use Rattle.machine.specs.declared.Change.{Change}
 use Rattle.machine.specs.declared.State.{State}
 use Rattle.machine.specs.declared.Sort.{Sort}
 use Rattle.machine.specs.declared.Sort.the-variants.{Declaration, OneTask, TheRunner, ListAsked, ListGiven, AnInterrupt, EveryTask}
+use Rattle.machine.proofs.Filing.{taken-valid}
 use Rattle.machine.proofs.SetLaws.{has-only}
 use Rattle.machine.proofs.Sorts.{continue-mark, tick-mark}
 use Rattle.machine.proofs.Works.{set-at}
@@ -226,7 +227,7 @@ module _ (day : ℕ) (isDay : IsDay day) (k : State) (p : Passes day k) (b : Lis
       let w = workOf day k c in
       byBool (continues k (Accepted (c .head)) i) (λ y. rw (number, q) y)
       (λ y.
-      let s = work-steady day k (p .tested) c i l y (sortOf (c .head .mark)) refl in
+      let s = work-steady day k (taken-valid day k (p .tested)) c i l y (sortOf (c .head .mark)) refl in
       let f = held-on (taskAt (w .tasks) i) (taskAt (finish k w .state .tasks) i) (finish-keeps k w i) .current in
       let a = both (taskAt (k .tasks) i .alive && not (ends i (stageOf day k b))) _ changes .0 in
       let h = both (taskAt (k .tasks) i .alive) (not (ends i (stageOf day k b))) a in

@@ -21,7 +21,7 @@ add-t11 c = search needs
 
 returns : tie.Need-returns
 unfolding addBolt
-returns c = rw (c .before .before .before .before .empty-bolt .ensures)
+returns c = rw (c .before .before .before .before .before .empty-bolt .ensures)
 
 pub add-bolt-spec : {M : Type 1} → statement M
 add-bolt-spec =

@@ -21,11 +21,11 @@ answered-requires c κs = search needs
 returns : tie.Need-returns
 returns c =
     let b = c .before in
-    let s = b .before .before .before in
+    let s = b .before .before .before .before in
     let k = s .args .k in
     c .answered .ensures
-    ∙ ap (λ (q : State). refuse q 0 (s .args .r)) (b .begun-at .ensures)
-    ∙ quiet-tick day k (tasks-long k (s .good .0 .0, s .good .0 .1 .1)) (s .pre .0) (s .pre .1 .1 .0) (s .pre .1 .1 .1) (s .pre .1 .0) (b .before .plus .ensures)
+    ∙ ap (λ (q : State). refuse q 0 (k .file .running)) (b .begun-at .ensures)
+    ∙ quiet-tick day k (tasks-long k (s .good .0 .0, s .good .0 .1 .1)) (s .pre .0) (s .pre .1 .0) (s .pre .1 .1) (b .before .plus .ensures)
 
 pub quiet-tick-spec : {M : Type 1} → statement M
 quiet-tick-spec = tie.close (tie.spec plus-requires begun-at-requires answered-requires returns)

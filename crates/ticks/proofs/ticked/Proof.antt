@@ -16,7 +16,7 @@ use Rattle.task.specs.Turns.{tickTurn}
 use Rattle.task.proofs.Laws.{still}
 use Rattle.task.specs.State.{runnable}
 use Rattle.task.specs.declared.Turn.{Turn}
-use Rattle.machine.specs.State.{mostTasks, taskAt, withState, begunAt, placeAt}
+use Rattle.machine.specs.State.{mostTasks, taskAt, withState, begunAt, placeAt, withRunning}
 use Rattle.machine.specs.Running.{runningOf}
 use Rattle.machine.specs.Serving.{nextServed}
 use Rattle.machine.specs.Work.{everyTurn}
@@ -351,7 +351,7 @@ every-turn c =
     rw (le-antisymm (l .loop .inv .0) (c .loop-test .left)) at (l .loop .inv .4)
 
 ends : (c : E) → let k = state (from c) in let n = moment (from c) in
-    record { state = begunAt n (c .if3 .k); answer = answerOf 0 (c .if3 .runner) (c .if3 .s) } ≡ finish k (everyTurn k n (tickTurn n))
+    record { state = begunAt n (withRunning (c .if3 .runner) (c .if3 .k)); answer = answerOf 0 (c .if3 .runner) (c .if3 .s) } ≡ finish k (everyTurn k n (tickTurn n))
 ends c =
     let p = from c in
     let k = state p in

@@ -1,42 +1,52 @@
 -- By the survey.
 use mathlib.Core.Path.{_≡_, sym, ap, _∙_}
-use mathlib.Core.Bool.{true}
 use native.Mathlib.Omega.{arith}
 use denote.Ref.{now}
 use Rattle.calendar.specs.Limits.{day}
 use Rattle.machine.specs.Step.{step}
-use Rattle.machine.specs.Test.{valid}
+use Rattle.machine.specs.Test.{kernelRefusal}
 use Rattle.machine.specs.declared.State.{State}
-use Rattle.changes.proofs.CallLaws.{step-1}
+use Rattle.changes.proofs.CallLaws.{step-away}
 use Rattle.quiet_ticks.proofs.QuietLaws.{tick-bytes}
-use Rattle.calls.proofs.SaidLaws.{said-unfit, said-fit, said-runner, in-time, said-quiet}
+use Rattle.calls.proofs.SaidLaws.{said-number, in-time, said-quiet}
 use borrow.Author.Needs.{needs}
 use Rattle.calls.proofs.step.step.Statement.{statement}
 use Rattle.calls.proofs.step.step.Tie as tie
 
--- Where the kernel passes the test.
+-- Where the kernel isn't turned away.
 abbrev E : Type 0
 E = tie.Else1
 
-abbrev state : E → State
-state c = c .before .before .before .before .before .args .k
+-- What was said of it before.
+abbrev K : Type 0
+K = tie.After-kernel-refusal
 
-passes : (c : E) → valid day (state c) ≡ true
-passes c = said-fit day (state c) (c .before .before .before .survey .ensures) (c .if1 .left)
+abbrev looked : K → tie.After-survey
+looked c = c .before .before .before
+
+abbrev state : K → State
+state c = looked c .before .before .args .k
+
+says : (c : K) → c .kernel-refusal .result ≡ kernelRefusal day (state c)
+says c = said-number day (state c) (looked c .survey .ensures) (c .kernel-refusal .ensures)
+
+passes : (c : E) → kernelRefusal day (state (c .before)) ≡ 0
+passes c = sym (says (c .before)) ∙ c .if1 .left
 
 survey-requires : tie.Need-survey-requires
 survey-requires c κs = search needs
+
+kernel-refusal-requires : tie.Need-kernel-refusal-requires
+kernel-refusal-requires c κs = search needs
 
 answered-requires : tie.Need-answered-requires
 answered-requires c κs = search needs
 
 returns : tie.Need-returns
-returns c =
-    let v = c .before .before .before .before in
-    c .answered .ensures ∙ step-1 day _ _ (said-unfit day _ (v .survey .ensures) (c .before .if1 .taken))
+returns c = c .answered .ensures ∙ step-away day _ _ (says (c .before .before)) (c .before .if1 .taken)
 
 add-if2 : tie.Need-add-if2
-add-if2 c = omega (arith, in-time day (state (c .before)) (c .before .before .before .before .survey .ensures) (passes (c .before)))
+add-if2 c = let e = c .before in omega (arith, in-time day (state (e .before)) (looked (e .before) .survey .ensures) (passes e))
 
 add-up-to : tie.Need-add-up-to
 add-up-to c = search needs
@@ -51,19 +61,15 @@ quiet-tick-requires : tie.Need-quiet-tick-requires
 quiet-tick-requires c κs =
     let u = c .before .before .before in
     let e = u .before .before in
-    let v = e .before .before .before .survey .ensures in
-    let q = said-quiet day (state e) v (passes e) (u .up-to .ensures) (c .before .before .if2 .taken) in
-    (passes e, (said-runner day (state e) v (passes e), q))
+    (passes e, said-quiet day (state (e .before)) (looked (e .before) .survey .ensures) (passes e) (u .up-to .ensures) (c .before .before .if2 .taken))
 
 returns-2 : tie.Need-returns-2
 returns-2 c =
-    let a = c .before .before .before .before .before .before .before .before .before .before .before .args in
+    let a = looked (c .before .before .before .before .before .before .before) .before .before .args in
     c .quiet-tick .ensures ∙ ap (step day (a .k)) (sym (tick-bytes (now (a .s)) (sym (c .before .before .is-tick .ensures) ∙ c .before .if3 .taken)))
 
 step-on-requires : tie.Need-step-on-requires
-step-on-requires c κs =
-    let e = c .before .before .before in
-    (passes e, said-runner day (state e) (e .before .before .before .survey .ensures) (passes e))
+step-on-requires c κs = passes (c .before .before .before)
 
 returns-3 : tie.Need-returns-3
 returns-3 c = search needs
@@ -73,6 +79,7 @@ step-spec =
     tie.close
     (tie.spec
     survey-requires
+    kernel-refusal-requires
     answered-requires
     returns
     add-if2

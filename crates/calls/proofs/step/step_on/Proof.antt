@@ -16,6 +16,9 @@ use Rattle.machine.specs.declared.State.{State}
 use Rattle.machine.specs.Scripts.{oneTick}
 use Rattle.machine.specs.Sorts.{declaring, declares}
 use Rattle.machine.specs.Refusals.{formalRefusal, declaredBy}
+use Rattle.machine.specs.Running.{runner}
+use Rattle.machine.specs.Test.{valid}
+use Rattle.machine.proofs.Filing.{taken-valid, taken-filed}
 use Rattle.machine.specs.Step.{refuse, settle, step}
 use Rattle.machine.proofs.Quiet.{tick-step}
 use Rattle.granting.proofs.Owned.{tasks-long}
@@ -35,10 +38,17 @@ abbrev read : K → tie.After-admit
 read c = c .before .before .before .before
 
 abbrev start : K → tie.Start
-start c = read c .before .before .before .before .before
+start c = read c .before .before .before .before .before .before
 
 abbrev state : K → State
 state c = start c .args .k
+
+-- The kernel passes the test, and its running task is on file.
+valid-at : (s : tie.Start) → valid day (s .args .k) ≡ true
+valid-at s = taken-valid day (s .args .k) (s .pre)
+
+runs-at : (s : tie.Start) → s .args .k .file .running ≡ runner (s .args .k)
+runs-at s = taken-filed day (s .args .k) (s .pre)
 
 abbrev head : K → Head
 head c = c .before .answer .given .0 .0
@@ -50,7 +60,7 @@ formed : (c : K) → formalRefusal day (state c .counts) (state c .begun) (callW
 formed c = admitted-formal day _ _ _ (read c .admit .ensures) (c .before .answer .given .1)
 
 settled : (c : K) → settle day (state c) (callWith (head c) (list c)) ≡ step day (state c) (now (start c .args .s))
-settled c = step-admitted day _ _ (start c .pre .0) (read c .admit .ensures) (c .before .answer .given .1)
+settled c = step-admitted day _ _ (start c .pre) (read c .admit .ensures) (c .before .answer .given .1)
 
 -- The sort is about an interrupt,
 signal : (c : tie.Then4) → c .before .before .before .before .before .before .sort-of .result ≡ AnInterrupt
@@ -67,25 +77,31 @@ sort-at c = c .before .before .before .before .before .before
 about : (c : tie.Else4) → aboutOne (sort-at c .sort-of .result) ≡ true
 about c = sym (c .before .is-about-one .ensures) ∙ not-false (c .before .is-about-one .result) (c .if4 .left)
 
+ticked-requires : tie.Need-ticked-requires
+ticked-requires c κs = let s = c .before .before .before .before in (valid-at s, runs-at s)
+
+ticked-requires-2 : tie.Need-ticked-requires-2
+ticked-requires-2 c κs = let s = start (c .before .before .before .before .before) in (valid-at s, runs-at s)
+
 returns : tie.Need-returns
 returns c =
-    let s = c .before .before .before .before in
+    let s = c .before .before .before .before .before in
     let a = s .args in
     c .ticked .ensures (callOf TI oneTick)
-    ∙ sym (tick-step day (a .k) (tasks-long (a .k) (s .good .0 .0, s .good .0 .1 .1)) (s .pre .0) (callOf TI oneTick))
+    ∙ sym (tick-step day (a .k) (tasks-long (a .k) (s .good .0 .0, s .good .0 .1 .1)) (s .pre) (callOf TI oneTick))
     ∙ ap (step day (a .k)) (sym (tick-bytes (now (a .s)) (sym (c .before .before .is-tick .ensures) ∙ c .before .if1 .taken)))
 
 returns-2 : tie.Need-returns-2
 returns-2 c =
     let n = c .before in
     let o = n .before .before .before .before in
-    let s = o .before .before .before .before .before in
+    let s = o .before .before .before .before .before .before in
     let e = n .before .enum-told .given .1 in
-    c .answered .ensures ∙ ap (λ (m : ℕ). refuse (s .args .k) m (s .args .r)) (n .number-of .ensures ∙ ap numberOf e)
-    ∙ step-refused day _ _ (s .pre .0) (o .admit .ensures) e (s .pre .1)
+    c .answered .ensures ∙ ap (λ (m : ℕ). refuse (s .args .k) m (s .args .k .file .running)) (n .number-of .ensures ∙ ap numberOf e)
+    ∙ step-refused day _ _ (s .pre) (o .admit .ensures) e (runs-at s)
 
 declared-requires : tie.Need-declared-requires
-declared-requires c κs = let q = c .before .before .before in (start q .pre .1, (list q, formed q))
+declared-requires c κs = let q = c .before .before .before in (runs-at (start q), (list q, formed q))
 
 returns-3 : tie.Need-returns-3
 unfolding declares
@@ -110,7 +126,7 @@ unfolding declaredBy
 interrupted-requires c κs =
     let o = c .before .before .before .before .before .before in
     let q = o .before in
-    (start q .pre .0, ltb-true _ _ (rw (sym (o .sort-of .ensures) ∙ signal c) at (past day (state q) (head q) (list q) (formed q) .known)))
+    (valid-at (start q), ltb-true _ _ (rw (sym (o .sort-of .ensures) ∙ signal c) at (past day (state q) (head q) (list q) (formed q) .known)))
 
 returns-5 : tie.Need-returns-5
 returns-5 c =
@@ -123,7 +139,7 @@ done-to-requires c κs =
     let t = c .before in
     let e = t .before .before in
     let q = sort-at e .before in
-    (start q .pre .0, (start q .pre .1, (formed q, (sort-at e .sort-of .ensures, (about e, rw (← t .before .is-naming .ensures, t .if5 .taken))))))
+    (valid-at (start q), (runs-at (start q), (formed q, (sort-at e .sort-of .ensures, (about e, rw (← t .before .is-naming .ensures, t .if5 .taken))))))
 
 returns-6 : tie.Need-returns-6
 returns-6 c = c .done-to .ensures ∙ settled (sort-at (c .before .before .before .before) .before)
@@ -133,7 +149,7 @@ done-to-requires-2 c κs =
     let t = c .before in
     let e = t .before .before in
     let q = sort-at e .before in
-    (start q .pre .0, (start q .pre .1, (formed q, (sort-at e .sort-of .ensures, (about e, rw (← t .before .is-naming .ensures, t .if5 .left, c .runner-at .ensures))))))
+    (valid-at (start q), (runs-at (start q), (formed q, (sort-at e .sort-of .ensures, (about e, rw (← t .before .is-naming .ensures, t .if5 .left, c .runner-at .ensures))))))
 
 returns-7 : tie.Need-returns-7
 returns-7 c = c .done-to2 .ensures ∙ settled (sort-at (c .before .before .before .before) .before)
@@ -143,7 +159,7 @@ step-on-spec =
     tie.close
     (tie.spec
     (λ c κs. search needs)
-    (λ c κs. search needs)
+    ticked-requires
     returns
     (λ c κs. search needs)
     (λ c. search needs)
@@ -156,7 +172,7 @@ step-on-spec =
     declared-requires
     returns-3
     (λ c κs. search needs)
-    (λ c κs. search needs)
+    ticked-requires-2
     returns-4
     (λ c κs. search needs)
     interrupted-requires

@@ -1,6 +1,6 @@
 -- What is carried on stays the same, and the text grows by each record's line.
 use borrow.Author.Needs.{needs}
-use borrow.Author.Tests.{not-true, not-false, ltb-true}
+use borrow.Author.Tests.{ltb-true}
 use mathlib.Core.Path.{_≡_, refl, sym, ap, _∙_, subst}
 use mathlib.Core.Bool.{true}
 use mathlib.Core.Logic.{⊎-elim}
@@ -12,23 +12,23 @@ use Rattle.lines.specs.Lines.{longestLine}
 use Rattle.lock.proofs.Bools.{both}
 use Rattle.calendar.specs.Limits.{day, lastInstant}
 use Rattle.calendar.specs.Moments.{upTo}
-use Rattle.calls.proofs.SaidLaws.{said-ok, said-runner, said-next}
+use Rattle.calls.proofs.SaidLaws.{said-number, said-next}
 use Rattle.granting.proofs.Owned.{tables-long}
 use Rattle.script.proofs.Going.{Still, still-next, Going, good, early, few, ahead, fits, started, stopped, refused, moved, stepped}
 use Rattle.script.proofs.run.run.Statement.{statement}
 use Rattle.script.proofs.run.run.Tie as tie
 
 abbrev Inv-loop : tie.InvT-loop
-Inv-loop bytes out₀ k₀ v r₀ quiet₀ at₀ fill₀ out k r quiet at fill = Going bytes out₀ k₀ (v .ok) out k r quiet at fill
+Inv-loop bytes out₀ k₀ refusal quiet₀ at₀ fill₀ out k quiet at fill = Going bytes out₀ k₀ refusal out k quiet at fill
 
 abbrev μ-loop : tie.MeasureT-loop
-μ-loop bytes out₀ k₀ v r₀ quiet₀ at₀ fill₀ out k r quiet at fill = length bytes - at
+μ-loop bytes out₀ k₀ refusal quiet₀ at₀ fill₀ out k quiet at fill = length bytes - at
 
 -- Where a record's end is known.
 abbrev N : Type 0
 N = tie.After-end-of Inv-loop μ-loop
 
--- Where the kernel passes the test, and once ticks before quiet are known to be quiet.
+-- Where the kernel isn't turned away, and once ticks before quiet are known to be quiet.
 abbrev E : Type 0
 E = tie.Else1 Inv-loop μ-loop
 
@@ -36,7 +36,7 @@ abbrev J : Type 0
 J = tie.Joined2 Inv-loop μ-loop
 
 abbrev nOf : E → N
-nOf c = c .before .before .before
+nOf c = c .before .before
 
 abbrev eOf : J → E
 eOf c = c .before .before .before .before
@@ -44,8 +44,8 @@ eOf c = c .before .before .before .before
 abbrev kOf : J → State
 kOf c = nOf (eOf c) .before .before .loop .k
 
-passes : (c : E) → nOf c .before .before .before .before .survey .result .ok ≡ true
-passes c = not-false _ (c .if1 .left)
+passes : (c : E) → nOf c .before .before .before .before .kernel-refusal .result ≡ 0
+passes c = c .if1 .left
 
 quietly : (c : J) → Still (c .if2 .quiet) (kOf c)
 quietly c =
@@ -55,6 +55,9 @@ quietly c =
 survey-requires : tie.Need-survey-requires Inv-loop μ-loop
 survey-requires c κs = search needs
 
+kernel-refusal-requires : tie.Need-kernel-refusal-requires Inv-loop μ-loop
+kernel-refusal-requires c κs = search needs
+
 add-up-to : tie.Need-add-up-to Inv-loop μ-loop
 add-up-to c = search needs
 
@@ -63,14 +66,15 @@ up-to-requires c κs = search needs
 
 loop-holds : tie.Need-loop-holds Inv-loop μ-loop
 loop-holds c =
-    let v = c .before in
+    let q = c .before in
+    let v = q .before .before in
     let s = v .before .before .before .before in
     let a = s .args in
     let k = a .script .kernel .state in
     let o = s .good .0 .1 .1 .0 .1 .1 .0 in
-    started (a .bytes .now) (a .out .now) k (v .survey .result .ok) (v .survey .result .runner) (c .up-to .result)
+    started (a .bytes .now) (a .out .now) k (q .kernel-refusal .result) (c .up-to .result)
     (λ i. v .before .before .before .shared-slice-known .given i .fits) (tables-long k (o .0, o .1 .1))
-    (said-ok day k (v .survey .ensures)) (said-runner day k (v .survey .ensures))
+    (said-number day k (v .survey .ensures) (q .kernel-refusal .ensures))
     (λ t. still-next k (c .up-to .ensures ∙ ap (upTo (lastInstant + 1)) (said-next day k (v .survey .ensures) t)))
 
 sub-loop : tie.Need-sub-loop Inv-loop μ-loop
@@ -95,23 +99,23 @@ plain-requires c κs = search needs
 room : (c : N) → c .before .before .loop .fill + longestLine ≤ length (c .before .before .loop .out)
 room c = fits (c .before .before .loop .inv) (c .before .loop-test .taken)
 
-less : (c : N) → length (c .before .before .before .before .before .before .before .before .args .bytes .now) - c .end-of .result
-    < length (c .before .before .before .before .before .before .before .before .args .bytes .now) - c .before .before .loop .at
+less : (c : N) → length (c .before .before .before .before .before .before .before .before .before .before .args .bytes .now) - c .end-of .result
+    < length (c .before .before .before .before .before .before .before .before .before .before .args .bytes .now) - c .before .before .loop .at
 less c = omega (arith, ahead (c .before .before .loop .inv) (c .before .loop-test .taken))
 
 line-at-requires : tie.Need-line-at-requires Inv-loop μ-loop
-line-at-requires c κs = room (c .before .before .before .before .before)
+line-at-requires c κs = room (c .before .before .before .before)
 
 loop-less : tie.Need-loop-less Inv-loop μ-loop
-loop-less c = less (c .before .before .before .before .before .before .before .before)
+loop-less c = less (c .before .before .before .before .before .before .before)
 
 loop-again : tie.Need-loop-again Inv-loop μ-loop
 loop-again c =
     let a = c .before .before in
     let p = a .before .before in
-    let n = p .before .before .before .before in
+    let n = p .before .before .before in
     refused (n .before .before .loop .inv) (n .end-of .result) (n .before .loop-test .taken) (n .end-of .ensures)
-    (not-true _ (p .before .if1 .taken)) (rw (p .plain .ensures) at (a .line-at .ensures .0)) (a .line-at .ensures .1) (a .line-at .kept .1 .0)
+    (p .before .if1 .taken) (rw (p .plain .ensures) at (a .line-at .ensures .0)) (a .line-at .ensures .1) (a .line-at .kept .1 .0)
 
 is-tick-requires : tie.Need-is-tick-requires Inv-loop μ-loop
 is-tick-requires c κs = search needs
@@ -132,7 +136,7 @@ add-if3 : tie.Need-add-if3 Inv-loop μ-loop
 add-if3 c = let e = eOf (c .before) in omega (arith, early (nOf e .before .before .loop .inv) (passes e))
 
 plus-requires : tie.Need-plus-requires Inv-loop μ-loop
-plus-requires c κs = let e = eOf (c .before .before) in omega (arith, early (nOf e .before .before .loop .inv) (passes e))
+plus-requires c κs = let e = eOf (c .before .before .before) in omega (arith, early (nOf e .before .before .loop .inv) (passes e))
 
 begun-at-requires : tie.Need-begun-at-requires Inv-loop μ-loop
 begun-at-requires c κs = search needs
@@ -141,19 +145,19 @@ plain-requires-2 : tie.Need-plain-requires-2 Inv-loop μ-loop
 plain-requires-2 c κs = search needs
 
 line-at-requires-2 : tie.Need-line-at-requires-2 Inv-loop μ-loop
-line-at-requires-2 c κs = room (nOf (eOf (c .before .before .before .before .before .before)))
+line-at-requires-2 c κs = room (nOf (eOf (c .before .before .before .before .before .before .before)))
 
 loop-less-2 : tie.Need-loop-less-2 Inv-loop μ-loop
-loop-less-2 c = less (nOf (eOf (c .before .before .before .before .before .before .before .before .before)))
+loop-less-2 c = less (nOf (eOf (c .before .before .before .before .before .before .before .before .before .before)))
 
 loop-again-2 : tie.Need-loop-again-2 Inv-loop μ-loop
 loop-again-2 c =
     let a = c .before .before in
     let p = a .before .before in
     let u = p .before .before in
-    let j = u .before .before .before in
+    let j = u .before .before .before .before in
     let n = nOf (eOf j) in
-    let x = both _ _ (u .before .if3 .taken) in
+    let x = both _ _ (u .before .before .if3 .taken) in
     rw (p .before .begun-at .ensures, u .plus .ensures)
     (moved (n .before .before .loop .inv) (n .end-of .result) (n .before .loop-test .taken) (n .end-of .ensures) (passes (eOf j)) (j .if2 .quiet) (quietly j)
     (sym (j .before .before .is-tick .ensures) ∙ x .0) (ltb-true _ _ (x .1)) (rw (p .plain2 .ensures) at (a .line-at2 .ensures .0))
@@ -163,7 +167,7 @@ step-on-requires : tie.Need-step-on-requires Inv-loop μ-loop
 step-on-requires c κs =
     let e = eOf (c .before .before) in
     let g = nOf e .before .before .loop .inv in
-    (good g (passes e), g .runs (passes e))
+    good g (passes e)
 
 line-if-requires : tie.Need-line-if-requires Inv-loop μ-loop
 line-if-requires c κs = room (nOf (eOf (c .before .before .before .before .before .before .before .before)))
@@ -186,7 +190,7 @@ same-length c = c .before .loop .inv .long
 returns : tie.Need-returns Inv-loop μ-loop
 returns c =
     let h = c .before in
-    stopped (h .loop .inv) (h .before .before .before .before .before .before .args .script) refl (c .loop-test .left)
+    stopped (h .loop .inv) (h .before .before .before .before .before .before .before .before .args .script) refl (c .loop-test .left)
 
 pub run-spec : {M : Type 1} → statement M
 run-spec =
@@ -195,6 +199,7 @@ run-spec =
     Inv-loop
     μ-loop
     survey-requires
+    kernel-refusal-requires
     add-up-to
     up-to-requires
     loop-holds

@@ -169,11 +169,11 @@ events-of-requires c κs = search needs
 moved-requires : tie.Need-moved-requires Inv-loop μ-loop
 moved-requires c κs = let j = c .before .before in let k = start (j .before) in tasks-fit (k .args .t1) (search needs)
 
-begun-at-requires : tie.Need-begun-at-requires Inv-loop μ-loop
-begun-at-requires c κs = search needs
-
 who-requires : tie.Need-who-requires Inv-loop μ-loop
 who-requires c κs = search needs
+
+begun-at-requires : tie.Need-begun-at-requires Inv-loop μ-loop
+begun-at-requires c κs = search needs
 
 answer-of-requires : tie.Need-answer-of-requires Inv-loop μ-loop
 answer-of-requires c κs = search needs
@@ -189,7 +189,7 @@ returns c =
     λ ts t.
     let n = a .t1 .counts .tasks in
     let b = i .before .turned-back .ensures n ts (a .t1 .tasks) (rw (min-eq-left (fits i)) at (scanned i .standing)) t in
-    rw (c .answer-of .ensures, c .before .who .ensures, c .before .before .begun-at .ensures)
+    rw (c .answer-of .ensures, c .before .begun-at .ensures, c .before .before .before .who .ensures)
     (settled-ends (a .t1) (a .m) (fits i) (start i .pre .1) (tables-long (a .t1) (good (start i)) .places) ts before b
     (j .if2 .k) (j .if2 .granted) (j .if2 .lead) (j .if2 .after) (settled j ts t b)
     (ev .events-of .result) (λ us s. ev .events-of .ensures n ts us (fits i) b s) (mv .moved .result) (mv .moved .ensures))
@@ -227,7 +227,7 @@ finished-spec =
     served-and-scanned-requires
     events-of-requires
     moved-requires
-    begun-at-requires
     who-requires
+    begun-at-requires
     answer-of-requires
     returns)

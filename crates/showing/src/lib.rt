@@ -1,0 +1,46 @@
+// What the programs with cases share: the line of a reply, that of the running task, and a start condition.
+ghost use mathlib.Core.Path.{_≡_};
+use kernel::Kernel;
+use kernel::Reply;
+use kernel::StartCondition;
+use lines::line_at;
+use machine::Answer;
+use serving::ends::plain;
+
+fn print_line(a: Answer) {
+    let mut out = io::buffer();
+    let n = line_at(a, &mut out, 0);
+    io::write_all(1, &out[..n]);
+}
+
+// Prints the line of a reply, unless it answers an accepted declaration, and hands its kernel on.
+pub fn show(r: Reply) -> Kernel
+    ensures { λ z. ⌜ z ≡ r .kernel ⌝ }
+{
+    let kernel = r.kernel;
+    let answer = r.answer;
+    if (answer.number != 0) | kernel.state.begun {
+        print_line(answer);
+    }
+    kernel
+}
+
+// Prints the running task on file as the line of an accepted call.
+pub fn show_running(kernel: Kernel) {
+    let running = kernel.running();
+    print_line(plain(0, running));
+}
+
+// A start of a kind with its first time, on interrupt 0, once.
+pub fn start(kind: u8, first: u32) -> StartCondition
+    ensures { λ r. ⌜ r ≡ record { kind = kind; interrupt = 0; endkind = 0; first = first; period = 0; endtime = 0 } ⌝ }
+{
+    StartCondition {
+        kind,
+        interrupt: 0,
+        endkind: 0,
+        first,
+        period: 0,
+        endtime: 0,
+    }
+}
