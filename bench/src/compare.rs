@@ -23,6 +23,14 @@ pub struct Programs<'a> {
 pub struct Score {
     pub passed: usize,
     pub failed: usize,
+    /// How much of what is demanded the scripts didn't reach.
+    missing: usize,
+}
+
+impl Score {
+    pub fn is_good(&self) -> bool {
+        self.failed == 0 && self.missing == 0
+    }
 }
 
 /// A random script: its number decides its kind, its seed the rest.
@@ -57,9 +65,14 @@ pub fn compare(programs: Option<&Programs>, count: usize, seed: u64) -> io::Resu
         writeln!(io::stdout(), "{more} more scripts fail").map_err(no_output)?;
     }
     write!(io::stdout(), "{reached}").map_err(no_output)?;
+    let missing = reached.missing();
+    if !missing.is_empty() {
+        writeln!(io::stdout(), "not reached: {}", missing.join("; ")).map_err(no_output)?;
+    }
     Ok(Score {
         passed: count - failed,
         failed,
+        missing: missing.len(),
     })
 }
 

@@ -3,21 +3,27 @@
 use std::fmt;
 
 use crate::answer::Answer;
+use crate::calendar::Instant;
 use crate::kernel::{Kernel, List, State, Wait};
 use crate::record::{Mark, Record, LETTERS};
+use crate::slept::Sleeps;
 use crate::unused::{lone_stray, Strays};
+
+/// From so many scripts on, everything that is demanded has to be reached.
+const MANY_SCRIPTS: u64 = 1000;
 
 #[derive(Default)]
 pub struct Coverage {
     scripts: u64,
     records: u64,
-    accepted: [u64; 23],
-    refused: [u64; 23],
+    accepted: [u64; 24],
+    refused: [u64; 24],
     without_mark: u64,
-    /// Answers by number, 0 to 16.
-    numbers: [u64; 17],
+    /// Answers by number, 0 to 17.
+    numbers: [u64; 18],
     /// Records refused for one bit alone.
     strays: Strays,
+    sleeps: Sleeps,
     start_kinds: [u64; 6],
     end_kinds: [u64; 3],
     continue_kinds: [u64; 5],
@@ -38,9 +44,9 @@ pub struct Coverage {
     passed: u64,
     /// RESERVEs that wait although one of their bolts is free.
     partly_free: u64,
-    /// Answers of TE, CO, TI and TG that grant something: to readers whose
+    /// Answers of TE, CO, TI, TG and SL that grant something: to readers whose
     /// writer has ended or has another priority, or who have another one.
-    let_in: [u64; 4],
+    let_in: [u64; 5],
     /// Calls in which several tasks have an event.
     several_moved: u64,
     /// Tasks that end and start anew in one call.
@@ -56,6 +62,19 @@ pub struct Coverage {
 impl Coverage {
     pub fn note_script(&mut self) {
         self.scripts += 1;
+        self.sleeps.note_script();
+    }
+
+    /// What the scripts should have reached and haven't; nothing as long as there
+    /// are few.
+    pub fn missing(&self) -> Vec<&'static str> {
+        if self.scripts < MANY_SCRIPTS {
+            return Vec::new();
+        }
+        let mut demanded = self.sleeps.named().to_vec();
+        demanded.push(("TI refused with 15", self.numbers[15]));
+        demanded.retain(|(_, count)| *count == 0);
+        demanded.into_iter().map(|(name, _)| name).collect()
     }
 
     /// One record and its answer; `before` is the kernel that it found, `after`
@@ -69,7 +88,9 @@ impl Coverage {
             *count += u64::from(set != 0);
         }
         self.several_granted += u64::from(sets.granted.count_ones() > 1);
-        let Some(record) = Record::read(bytes) else {
+        let record = Record::read(bytes);
+        self.sleeps.note(before, record.as_ref(), answer);
+        let Some(record) = record else {
             self.without_mark += 1;
             return;
         };
@@ -107,7 +128,9 @@ impl Coverage {
                 continue;
             }
             match task.state {
-                State::DelayedUntil(instant) if instant == before.now + 1 => self.with_delay += 1,
+                State::DelayedUntil(instant) if Some(instant) == arrives_at(before, call) => {
+                    self.with_delay += 1;
+                }
                 _ if task.held() || call.mark == Mark::Resume => self.continued += 1,
                 _ => self.in_vain += 1,
             }
@@ -127,6 +150,7 @@ impl Coverage {
             Mark::Continue => self.let_in[1] += u64::from(granted),
             Mark::Tick => self.let_in[2] += u64::from(granted),
             Mark::Trigger => self.let_in[3] += u64::from(granted),
+            Mark::Sleep => self.let_in[4] += u64::from(granted),
             _ => {}
         }
     }
@@ -161,13 +185,24 @@ fn writer_waits(kernel: &Kernel, bolts: &List) -> bool {
     kernel.declared_tasks().iter().any(|t| names_one(&t.wait))
 }
 
+/// The later instant to which this call, which is accepted, leads.
+fn arrives_at(before: &Kernel, call: &Record) -> Option<Instant> {
+    match call.mark {
+        Mark::Tick => Some(before.now + 1),
+        Mark::Sleep => before.to_come,
+        _ => None,
+    }
+}
+
 /// Whether this call, which is accepted, makes a continuation of task `i` come due.
 fn continuation_comes_due(before: &Kernel, call: &Record, i: usize) -> bool {
     let now = before.now;
     let at_once = || before.first_due(call) == Some(now);
     let pending = before.tasks[i].continuation;
     match call.mark {
-        Mark::Tick => pending.is_some_and(|c| c.next == now + 1),
+        Mark::Tick | Mark::Sleep => {
+            pending.is_some_and(|c| Some(c.next) == arrives_at(before, call))
+        }
         Mark::Trigger => {
             let first = pending.and_then(|c| c.origin.first_after_trigger(call.number, now));
             before.enabled[usize::from(call.number)] && first == Some(now)
@@ -193,6 +228,7 @@ impl fmt::Display for Coverage {
         }
         writeln!(f)?;
         writeln!(f, "{}", self.strays)?;
+        writeln!(f, "{}", self.sleeps)?;
         writeln!(
             f,
             "start kinds 0 to 5: {:?}, end kinds 0 to 2: {:?}",
@@ -221,7 +257,11 @@ impl fmt::Display for Coverage {
              RESERVEs that wait with a bolt free {}",
             self.held_up, self.passed, self.partly_free
         )?;
-        writeln!(f, "answers of TE, CO, TI, TG that grant: {:?}", self.let_in)?;
+        writeln!(
+            f,
+            "answers of TE, CO, TI, TG, SL that grant: {:?}",
+            self.let_in
+        )?;
         writeln!(
             f,
             "calls that move several tasks {}, tasks that start anew at their end {}, \

@@ -5,6 +5,7 @@ use crate::calendar::{next_showing, Instant};
 use crate::kernel::{End, Kernel, Origin, Priority, Schedule, State, Task};
 use crate::limits::LAST_INSTANT;
 use crate::record::Record;
+use crate::to_come::Earliest;
 
 impl Task {
     /// A start falls due; `number` is that of this task.
@@ -96,14 +97,19 @@ impl Kernel {
         }
     }
 
-    /// The next instant: delays that are over, then continuations, then dues.
+    /// Now is this instant, by one tick or by as many as nothing came due in.
+    /// What comes due at it is done: delays that are over, then continuations,
+    /// then dues. Hands back whether some task was unheld or started.
     ///
-    /// None of them looks at another task, so one pass does for all. Hands back
-    /// whether some task was unheld or started.
-    pub fn tick(&mut self, sets: &mut Sets) -> bool {
-        self.now += 1;
-        let now = self.now;
+    /// Only at the instant on file is there anything to do. None of it looks at
+    /// another task, so one pass does for all, and finds what is to come then.
+    pub fn arrive(&mut self, now: Instant, sets: &mut Sets) -> bool {
+        self.now = now;
+        if self.to_come != Some(now) {
+            return false;
+        }
         let mut unheld = false;
+        let mut earliest = Earliest::after(now);
         for (i, task) in self.declared_tasks_mut().iter_mut().enumerate() {
             if let State::DelayedUntil(instant) = task.state {
                 if instant == now {
@@ -113,7 +119,9 @@ impl Kernel {
             }
             unheld |= task.check_continuation(now);
             task.check_schedule(i, now, sets);
+            earliest.consider_task(task);
         }
+        self.to_come = earliest.instant();
         unheld || sets.started != 0
     }
 }

@@ -54,6 +54,11 @@ pub struct Reached {
 }
 
 impl Reached {
+    /// What the scripts should have reached and haven't.
+    pub fn missing(&self) -> Vec<&'static str> {
+        self.coverage.missing()
+    }
+
     fn note_look(&mut self, look: &Look) {
         self.looks += 1;
         for waiting in &look.waiting {

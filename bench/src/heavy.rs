@@ -24,6 +24,22 @@ pub fn ticks(records: usize) -> Vec<u8> {
     script.bytes
 }
 
+/// All tasks have periodic schedules, each with a period of its own of a minute to
+/// a minute and a half; then only sleeps, from one due to the next. As nobody ends,
+/// each task has a start kept back, and every due is lost.
+pub fn sleeps(records: usize) -> Vec<u8> {
+    let mut script = Script::new(records);
+    script.living_tasks();
+    for task in 0..TASKS as u8 {
+        let period = 60_000 + u32::from(task) * 1_009;
+        script.put(Draft::new(b"AC").on(task).all(period));
+    }
+    while script.left > 0 {
+        script.put(Draft::new(b"SL"));
+    }
+    script.bytes
+}
+
 /// Calls of nearly all sorts, all of them accepted.
 pub fn calls(records: usize) -> Vec<u8> {
     let mut script = Script::new(records);

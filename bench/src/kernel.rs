@@ -178,6 +178,9 @@ pub struct Kernel {
     /// The running task on file, stored with every accepted record. A kernel in
     /// which it isn't the one that the rule gives gets refusal 16.
     pub on_file: Option<u8>,
+    /// The instant to come on file, see `to_come.rs`: the earliest one later than
+    /// now at which something comes due. A wrong one gets refusal 16 too.
+    pub to_come: Option<Instant>,
     pub semaphores: [u16; SEMAPHORES],
     pub bolts: [Bolt; BOLTS],
     pub enabled: [bool; INTERRUPTS],
@@ -193,6 +196,7 @@ impl Kernel {
             tasks: [Task::declared(Priority::MIN); TASKS],
             places: [0; TASKS],
             on_file: None,
+            to_come: None,
             semaphores: [0; SEMAPHORES],
             bolts: [Bolt::default(); BOLTS],
             enabled: [false; INTERRUPTS],

@@ -17,11 +17,13 @@ mod lines;
 mod random;
 mod record;
 mod runner;
+mod slept;
 mod sound;
 mod step;
 #[cfg(test)]
 mod tests;
 mod timing;
+mod to_come;
 mod trouble;
 mod turns;
 mod unused;
@@ -38,8 +40,9 @@ const USAGE: &str = "usage:
   bench reference                      records on standard input, lines on standard output
   bench waits                          the same, with the lines of rackwait
   bench generate KIND SEED RECORDS     a random script: valid, damaged, contended,
-                                       idle, writers, turns or queues
-  bench heavy KIND RECORDS             a long script: ticks, calls, readers or queues
+                                       idle, writers, turns, queues or late
+  bench heavy KIND RECORDS             a long script: ticks, calls, sleeps, readers
+                                       or queues
   bench compare RACKRUN RACKWAIT COUNT SEED
                                        random scripts through both and the reference
   bench coverage COUNT SEED            what those scripts reach
@@ -87,6 +90,7 @@ fn run(words: &[&str]) -> Result<bool, Trouble> {
             write_out(&match *kind {
                 "ticks" => heavy::ticks(records),
                 "calls" => heavy::calls(records),
+                "sleeps" => heavy::sleeps(records),
                 "readers" => heavy::readers(records),
                 "queues" => heavy::queues(records),
                 _ => return Err(Trouble::Usage),
@@ -97,10 +101,10 @@ fn run(words: &[&str]) -> Result<bool, Trouble> {
             let score = compare(Some(&programs), count(scripts)?, number(seed)?)?;
             let text = format!("{} passed, {} failed\n", score.passed, score.failed);
             write_out(text.as_bytes())?;
-            return Ok(score.failed == 0);
+            return Ok(score.is_good());
         }
         ["coverage", scripts, seed] => {
-            return Ok(compare(None, count(scripts)?, number(seed)?)?.failed == 0);
+            return Ok(compare(None, count(scripts)?, number(seed)?)?.is_good());
         }
         ["time", program, script, rounds] => timing::time(program, script, count(rounds)?.max(1))?,
         _ => return Err(Trouble::Usage),

@@ -29,12 +29,13 @@ pub enum Mark {
     Enable,
     Disable,
     Tick,
+    Sleep,
 }
 
 /// The two letters of every mark, in the order of the enum.
-pub const LETTERS: [&[u8; 2]; 23] = [
+pub const LETTERS: [&[u8; 2]; 24] = [
     b"DT", b"DS", b"DB", b"IT", b"DC", b"AC", b"TE", b"SU", b"PR", b"CO", b"EN", b"RE", b"RQ",
-    b"RL", b"TR", b"RS", b"FR", b"ET", b"LV", b"TG", b"EI", b"XI", b"TI",
+    b"RL", b"TR", b"RS", b"FR", b"ET", b"LV", b"TG", b"EI", b"XI", b"TI", b"SL",
 ];
 
 impl Mark {
@@ -63,12 +64,24 @@ impl Mark {
             b"EI" => Mark::Enable,
             b"XI" => Mark::Disable,
             b"TI" => Mark::Tick,
+            b"SL" => Mark::Sleep,
             _ => return None,
         })
     }
 
     pub fn declares(self) -> bool {
         (self as u8) <= Mark::DeclareClock as u8
+    }
+
+    /// Whether such a call may change, at the present instant, when something
+    /// comes due. EN doesn't: the running task isn't delayed, and what it has to
+    /// come stays.
+    pub fn changes_what_comes(self) -> bool {
+        match self {
+            Mark::Activate | Mark::Terminate | Mark::Suspend | Mark::Prevent => true,
+            Mark::Continue | Mark::Resume | Mark::Trigger => true,
+            _ => false,
+        }
     }
 
     pub fn has_list(self) -> bool {
@@ -187,9 +200,11 @@ impl Record {
                 self.first <= Millis::from(FULL) && self.uses_only(join(MARK, FIRST))
             }
             Mark::DeclareClock => self.uses_only(join(MARK, FIRST)),
-            Mark::DeclareBolt | Mark::DeclareInterrupt | Mark::EndSelf | Mark::Tick => {
-                self.uses_only(MARK)
-            }
+            Mark::DeclareBolt
+            | Mark::DeclareInterrupt
+            | Mark::EndSelf
+            | Mark::Tick
+            | Mark::Sleep => self.uses_only(MARK),
             Mark::Activate => self.activation_fields_are_good(),
             Mark::Continue | Mark::Resume => self.continuation_fields_are_good(),
             Mark::Terminate

@@ -1,14 +1,15 @@
 //! Refusal 1: is the kernel value one that may be worked with?
 //!
-//! The same look finds the running task, which refusal 16 compares with the one on
-//! file, and those that wait. What the types rule out, such as a priority of 0, a
+//! The same look finds the running task and the instant to come, which refusal 16
+//! compares with those on file, and the tasks that wait. What the types rule out, such as a priority of 0, a
 //! semaphore above 65,535 or a terminated task that is held, needs no test.
 
-use crate::calendar::{is_duration, is_time_of_day};
+use crate::calendar::{is_duration, is_time_of_day, Instant};
 use crate::grant::members;
 use crate::kernel::{Continuation, End, Kernel, List, Origin, Schedule, State, Task, Wait};
 use crate::limits::{BOLTS, INTERRUPTS, LAST_INSTANT, LAST_TICK, LIST, LONGEST, SEMAPHORES, TASKS};
 use crate::runner::{urgency, Runner};
+use crate::to_come::Earliest;
 
 pub struct Unsound;
 
@@ -19,10 +20,12 @@ pub struct Survey {
     pub runnable: u32,
     /// All tasks that wait, as a set.
     pub waiting: u32,
+    /// The instant to come.
+    pub to_come: Option<Instant>,
 }
 
 impl Kernel {
-    /// Who runs and who waits, if the kernel is sound.
+    /// Who runs, who waits and what is to come, if the kernel is sound.
     ///
     /// A function of its own that calls nothing in its loop, which so keeps all
     /// it needs in registers.
@@ -32,6 +35,7 @@ impl Kernel {
             return Err(Unsound);
         }
         let mut runner = Runner::none();
+        let mut earliest = Earliest::after(self.now);
         let mut runnable = 0;
         let mut taken = 0;
         for (i, (task, &place)) in self.tasks_and_places().enumerate() {
@@ -47,11 +51,13 @@ impl Kernel {
                 if !self.schedule_is_sound(schedule) {
                     return Err(Unsound);
                 }
+                earliest.consider(schedule.next);
             }
             if let Some(continuation) = &task.continuation {
                 if !self.continuation_is_sound(continuation) {
                     return Err(Unsound);
                 }
+                earliest.consider(continuation.next);
             }
         }
         // As many places as tasks: if one were taken twice, one would be missing.
@@ -62,18 +68,22 @@ impl Kernel {
         Ok(Survey {
             running: runner.number(),
             runnable,
-            waiting: self.survey_pauses(all & !runnable)?,
+            waiting: self.survey_pauses(all & !runnable, &mut earliest)?,
+            to_come: earliest.instant(),
         })
     }
 
     /// Who of these tasks waits, if what keeps each of them from running is sound.
     #[inline(never)]
-    fn survey_pauses(&self, paused: u32) -> Result<u32, Unsound> {
+    fn survey_pauses(&self, paused: u32, earliest: &mut Earliest) -> Result<u32, Unsound> {
         let mut waiting = 0;
         for i in members(paused) {
             let task = &self.tasks[i];
             if !self.pause_is_sound(task) {
                 return Err(Unsound);
+            }
+            if let State::DelayedUntil(instant) = task.state {
+                earliest.consider(instant);
             }
             waiting |= u32::from(task.waits()) << i;
         }

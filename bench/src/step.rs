@@ -1,12 +1,13 @@
 //! One record carried out, or refused without a trace.
 
 use crate::answer::{Answer, Sets};
+use crate::calendar::Instant;
 use crate::kernel::{Bolt, End, Kernel, List, Priority, Schedule, State, Task, Wait};
 use crate::limits::{BOLTS, FULL, INTERRUPTS, LAST_TICK, SEMAPHORES, TASKS};
 use crate::record::{Mark, Record};
 use crate::sound::Survey;
 
-/// A refusal number from 2 to 15.
+/// A refusal number from 2 to 15, or 17.
 type Refusal = u8;
 
 /// What has to be looked for after an accepted call.
@@ -28,7 +29,7 @@ impl Kernel {
         let Ok(found) = self.survey() else {
             return Answer::refusal(1, None);
         };
-        if self.on_file != found.running {
+        if self.on_file != found.running || self.to_come != found.to_come {
             return Answer::refusal(16, None);
         }
         let mut sets = Sets::default();
@@ -64,6 +65,9 @@ impl Kernel {
         }
         let effect = self.call(&record, found, sets)?;
         self.called = true;
+        if record.mark.changes_what_comes() {
+            self.to_come = self.look_ahead();
+        }
         let served = effect != Effect::Quiet && self.serve_after(found, sets);
         if !served && effect != Effect::MayTurn {
             return Ok(found.running);
@@ -205,14 +209,27 @@ impl Kernel {
                 self.enabled[i] = record.mark == Mark::Enable;
                 return Ok(Effect::Quiet);
             }
+            Mark::Sleep => {
+                let instant = self.to_come.ok_or(17)?;
+                refuse_if(instant > LAST_TICK, 17)?;
+                return Ok(self.go_to(instant, sets));
+            }
             _ => {
                 refuse_if(self.now >= LAST_TICK, 15)?;
-                if !self.tick(sets) {
-                    return Ok(Effect::Quiet);
-                }
+                return Ok(self.go_to(self.now + 1, sets));
             }
         }
         Ok(Effect::MayTurn)
+    }
+
+    /// Time goes on to this instant; nothing comes due before it.
+    fn go_to(&mut self, instant: Instant, sets: &mut Sets) -> Effect {
+        let turns = self.arrive(instant, sets);
+        if turns {
+            Effect::MayTurn
+        } else {
+            Effect::Quiet
+        }
     }
 
     fn activate(&mut self, record: &Record, sets: &mut Sets) -> Result<(), Refusal> {

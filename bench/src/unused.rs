@@ -32,7 +32,8 @@ fn used_bytes(record: &Record) -> Option<Vec<Bytes>> {
     Some(match record.mark {
         Mark::DeclareTask => vec![PRIORITY],
         Mark::DeclareSemaphore | Mark::DeclareClock => vec![FIRST],
-        Mark::DeclareBolt | Mark::DeclareInterrupt | Mark::EndSelf | Mark::Tick => vec![],
+        Mark::DeclareBolt | Mark::DeclareInterrupt => vec![],
+        Mark::EndSelf | Mark::Tick | Mark::Sleep => vec![],
         Mark::Activate => {
             let task = vec![NUMBER, PRIORITY];
             [task, condition(record)?, repetition(record)?].concat()

@@ -4,6 +4,7 @@ import re
 from typing import NamedTuple, Optional
 
 from rack import records
+from rack.clock import Clock
 from rack.files import Failure, read_lines
 from rack.text import Item
 
@@ -26,7 +27,8 @@ REFUSALS = {
     13: "semaphore full",
     14: "no writer or reader there",
     15: "last instant reached",
-    16: "wrong running task on file",
+    16: "wrong running task or instant to come on file",
+    17: "nothing to come by the last instant",
 }
 
 
@@ -56,10 +58,12 @@ class Answer(NamedTuple):
 
 
 class Answered(NamedTuple):
-    """One record of a script. An accepted declaration has no answer, but says what it declared."""
+    """One record of a script and the instant after it. An accepted declaration has no answer,
+    but says what it declared."""
     item: Item
     answer: Optional[Answer]
-    declared: str = ""
+    declared: str
+    instant: int
 
 
 class Pairing:
@@ -71,6 +75,8 @@ class Pairing:
         self.lines = read_lines(lines_name)
         self.declared = dict.fromkeys(records.PLACES, 0)
         self.called = False         # a call was accepted
+        self.running = None         # the task of the last line
+        self.clock = Clock()
 
     @property
     def tasks(self):
@@ -80,10 +86,8 @@ class Pairing:
         for item in self.items:
             for _ in range(item.count):
                 declared = self._declare(item.record)
-                if declared is None:
-                    yield Answered(item, self._answer(item))
-                else:
-                    yield Answered(item, None, declared)
+                answer = self._answer(item) if declared is None else None
+                yield Answered(item, answer, declared or "", self.clock.now)
         self._no_more_lines()
 
     def _declare(self, record):
@@ -92,6 +96,7 @@ class Pairing:
         if mark not in records.DECLARATIONS or self.called or records.refusal(record):
             return None
         if mark == "DC":
+            self.clock.follow(record, None)
             return "clock"
         if self.declared[mark] == records.PLACES[mark]:
             return None
@@ -105,7 +110,10 @@ class Pairing:
             raise Failure(f"{self.name}: too few lines: none is left for '{item.words}' ({item.place})")
         answer = self._read(number, line)
         self._check(item, number, answer)
-        self.called = self.called or answer.number == 0
+        if answer.number == 0:
+            self.called = True
+            self.clock.follow(item.record, self.running)
+        self.running = answer.running
         return answer
 
     def _read(self, number, line):
@@ -128,8 +136,10 @@ class Pairing:
             raise Failure(f"{here}this record is refused, but the line says accepted")
 
     def _surely_refused(self, record):
-        """A declaration that gets here is refused, and so is what no reader takes."""
-        return records.mark_of(record) in records.DECLARATIONS or records.refusal(record)
+        """A declaration that gets here is refused, and so are what no reader takes and a sleep
+        with nothing to come."""
+        return (records.mark_of(record) in records.DECLARATIONS or records.refusal(record)
+                or record == records.SLEEP and not self.clock.can_sleep)
 
     def _no_more_lines(self):
         first = next(self.lines, None)

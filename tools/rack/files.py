@@ -4,7 +4,7 @@ import sys
 from itertools import groupby
 
 from rack import text
-from rack.records import SIZE, TICK
+from rack.records import SIZE
 
 CHUNK = 4096        # records read or written at once
 
@@ -25,10 +25,10 @@ def open_bytes(name):
 def read_records(name):
     """The items of a file of records; a short rest is the last one."""
     number = 0
-    for is_tick, run in groupby(_split(name), TICK.__eq__):
-        if is_tick:
+    for word, run in groupby(_split(name), text.COUNTED_WORD.get):
+        if word:
             count = sum(1 for _ in run)
-            yield text.Item(TICK, count, "TICK", f"{name}, record {number + 1}")
+            yield text.Item(text.COUNTED[word], count, word, f"{name}, record {number + 1}")
             number += count
             continue
         for record in run:

@@ -25,7 +25,7 @@ USED = {
     "TE": {"number"}, "SU": {"number"}, "PR": {"number"}, "CO": {"number", "priority", "kind"},
     "EN": set(), "RE": {"kind"},
     **{mark: {"length", "places"} for mark in LIST_MARKS},
-    "TG": {"number"}, "EI": {"number"}, "XI": {"number"}, "TI": set(),
+    "TG": {"number"}, "EI": {"number"}, "XI": {"number"}, "TI": set(), "SL": set(),
 }
 AT, AFTER, WHEN, WHEN_AFTER, ALL = 1, 2, 3, 4, 5
 USED_BY_KIND = {
@@ -75,6 +75,7 @@ def unpack(record):
 
 
 TICK = pack("TI")
+SLEEP = pack("SL")
 
 
 def mark_of(record):

@@ -2,6 +2,7 @@
 
 from rack.answers import SETS, refusal_text
 from rack.records import TICK
+from rack.text import COUNTED_WORD
 
 WIDEST_CALL = 60        # a longer call shifts its own row only
 
@@ -20,22 +21,20 @@ def annotate(pairing):
 
 
 def _rows(pairing):
-    instant = 0
-    quiet, running = 0, None        # quiet ticks not yet written, and who runs in them
-    for item, answer, declared in pairing:
-        accepted_tick = item.record == TICK and answer.number == 0
-        instant += accepted_tick
-        if quiet and not (accepted_tick and answer.quiet and answer.running == running):
-            yield _quiet_row(instant - accepted_tick, quiet, running)
+    quiet, running, last = 0, None, 0   # quiet ticks not yet written, who runs in them, the last
+    for item, answer, declared, instant in pairing:
+        quiet_tick = item.record == TICK and answer.quiet
+        if quiet and not (quiet_tick and answer.running == running):
+            yield _quiet_row(last, quiet, running)
             quiet = 0
-        if accepted_tick and answer.quiet:
-            quiet, running = quiet + 1, answer.running
+        if quiet_tick:
+            quiet, running, last = quiet + 1, answer.running, instant
         elif answer is None:
             yield str(instant), item.words, declared, "", ""
         else:
             yield _row(instant, item, answer)
     if quiet:
-        yield _quiet_row(instant, quiet, running)
+        yield _quiet_row(last, quiet, running)
 
 
 def _quiet_row(instant, count, running):
@@ -44,7 +43,7 @@ def _quiet_row(instant, count, running):
 
 
 def _row(instant, item, answer):
-    call = "TICK" if item.record == TICK else item.words
+    call = COUNTED_WORD.get(item.record, item.words)
     number = f"{answer.number} {refusal_text(answer.number, item.record)}".rstrip()
     sets = [f"{name} {_members(value)}" for name, value in zip(SETS, answer.sets) if value]
     return str(instant), call, number, _task(answer.running), "  ".join(sets)
@@ -96,7 +95,7 @@ class Life:
 def follow_all(pairing):
     """A Life for each declared task."""
     lives = []
-    for _, answer, _ in pairing:
+    for _, answer, _, _ in pairing:
         while len(lives) < pairing.tasks:
             lives.append(Life())
         if answer is None or answer.quiet:

@@ -4,14 +4,16 @@ import re
 from typing import NamedTuple
 
 from rack import records
-from rack.records import BYTE_LIMIT, LIST_PLACES, SIZE, TICK, TIME_LIMIT, pack
+from rack.records import BYTE_LIMIT, LIST_PLACES, SIZE, SLEEP, TICK, TIME_LIMIT, pack
 
-# Words that stand alone, take one number, or take a list.
+# Words that stand alone, take one number, take a list, or may be followed by a count.
 BARE = {"BOLT": "DB", "INTERRUPT": "IT", "END": "EN"}
 NUMBERED = {"TERMINATE": "TE", "SUSPEND": "SU", "PREVENT": "PR",
             "TRIGGER": "TG", "ENABLE": "EI", "DISABLE": "XI"}
 LISTED = {"REQUEST": "RQ", "RELEASE": "RL", "TRY": "TR",
           "RESERVE": "RS", "FREE": "FR", "ENTER": "ET", "LEAVE": "LV"}
+COUNTED = {"TICK": TICK, "SLEEP": SLEEP}
+COUNTED_WORD = {record: word for word, record in COUNTED.items()}
 UNITS = {"HRS": 3_600_000, "MIN": 60_000, "SEC": 1_000, "MS": 1}
 UNIT_WORDS = "MS, SEC, MIN or HRS"
 
@@ -94,8 +96,9 @@ def _read_call(words):
         if first in table:
             words.take(first)
             return read(words, table[first]), 1
-    if first == "TICK":
-        return _read_tick(words)
+    if first in COUNTED:
+        words.take(first)
+        return COUNTED[first], _read_count(words, f"a number of {first.lower()}s")
     if first in READERS:
         return READERS[first](words), 1
     raise expected("a declaration or a call", words.found())
@@ -121,15 +124,14 @@ def _read_list(words, mark):
     return pack(mark, numbers)
 
 
-def _read_tick(words):
-    words.take("TICK")
+def _read_count(words, what):
     if words.next() is None:
-        return TICK, 1
+        return 1
     if not words.next_is_number() or int(words.next()) == 0:
-        raise expected("a number of ticks, 1 or more", words.found())
-    count = words.number("a number of ticks", 10**18)
+        raise expected(f"{what}, 1 or more", words.found())
+    count = words.number(what, 10**18)
     words.end()
-    return TICK, count
+    return count
 
 
 def _read_task(words):
@@ -320,7 +322,7 @@ def write_record(record):
     """The words for a record: its call, or BYTES where a reader refuses it."""
     if records.refusal(record):
         return f"BYTES {record.hex(' ').upper()}"
-    return _write_call(records.unpack(record))
+    return COUNTED_WORD.get(record) or _write_call(records.unpack(record))
 
 
 def write_reason(record):
@@ -338,8 +340,6 @@ def _write_call(f):
         return f"SEMA PRESET {f.first}"
     if f.mark == "DC":
         return f"CLOCK {write_time_of_day(f.first)}"
-    if f.mark == "TI":
-        return "TICK"
     return _write_start(f) + _write_started(f)
 
 
@@ -398,5 +398,5 @@ def write_duration(time):
 def write_line(item):
     """The line of text for an item of a file of records."""
     if item.count > 1:
-        return f"TICK {item.count}"
+        return f"{item.words} {item.count}"
     return item.words + write_reason(item.record)

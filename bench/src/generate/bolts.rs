@@ -81,13 +81,15 @@ impl Maker {
         }
     }
 
-    /// What a continuation waits for: a tick, or its interrupt.
-    fn awaited(&self, continuation: &Continuation) -> Draft {
+    /// What a continuation waits for: a tick, often with those before it slept
+    /// through, or its interrupt.
+    fn awaited(&mut self, continuation: &Continuation) -> Draft {
         match continuation.origin {
             Origin::Interrupt(i) | Origin::InterruptAfter(i, _) if continuation.next == 0 => {
                 let enabled = self.kernel.enabled[usize::from(i)];
                 Draft::new(if enabled { b"TG" } else { b"EI" }).on(i)
             }
+            _ if self.random.once_in(3) => Draft::new(b"SL"),
             _ => Draft::new(b"TI"),
         }
     }

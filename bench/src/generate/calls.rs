@@ -4,7 +4,7 @@ use super::{numbers_where, Kind, Maker};
 use crate::calendar::time_of_day;
 use crate::draft::Draft;
 use crate::kernel::{State, Task};
-use crate::limits::{DAY, FULL, LONGEST};
+use crate::limits::{DAY, FULL, LAST_TICK, LONGEST};
 
 type Weights = [(&'static [u8; 2], u32)];
 
@@ -27,7 +27,8 @@ const EVEN: &Weights = &[
     (b"TG", 4),
     (b"EI", 3),
     (b"XI", 2),
-    (b"TI", 12),
+    (b"TI", 10),
+    (b"SL", 6),
 ];
 
 const CONTENDED: &Weights = &[
@@ -49,6 +50,7 @@ const CONTENDED: &Weights = &[
     (b"EI", 1),
     (b"XI", 1),
     (b"TI", 3),
+    (b"SL", 2),
 ];
 
 const IDLE: &Weights = &[
@@ -69,7 +71,8 @@ const IDLE: &Weights = &[
     (b"TG", 6),
     (b"EI", 4),
     (b"XI", 1),
-    (b"TI", 50),
+    (b"TI", 38),
+    (b"SL", 16),
 ];
 
 const WRITERS: &Weights = &[
@@ -90,7 +93,8 @@ const WRITERS: &Weights = &[
     (b"TG", 9),
     (b"EI", 3),
     (b"XI", 1),
-    (b"TI", 13),
+    (b"TI", 10),
+    (b"SL", 5),
 ];
 
 const TURNS: &Weights = &[
@@ -111,7 +115,8 @@ const TURNS: &Weights = &[
     (b"TG", 7),
     (b"EI", 3),
     (b"XI", 1),
-    (b"TI", 18),
+    (b"TI", 14),
+    (b"SL", 6),
 ];
 
 const QUEUES: &Weights = &[
@@ -132,7 +137,8 @@ const QUEUES: &Weights = &[
     (b"TG", 3),
     (b"EI", 2),
     (b"XI", 1),
-    (b"TI", 8),
+    (b"TI", 7),
+    (b"SL", 3),
 ];
 
 impl Maker {
@@ -167,7 +173,7 @@ impl Maker {
         let weights = match self.kind {
             Kind::Valid | Kind::Damaged => EVEN,
             Kind::Contended => CONTENDED,
-            Kind::Idle => IDLE,
+            Kind::Idle | Kind::Late => IDLE,
             Kind::Writers => WRITERS,
             Kind::Turns => TURNS,
             Kind::Queues => QUEUES,
@@ -207,6 +213,8 @@ impl Maker {
             b"TG" => draft.on(self.interrupt(true)?),
             b"EI" => draft.on(self.interrupt(false)?),
             b"XI" => draft.on(self.interrupt(true)?),
+            b"TI" if self.kernel.now >= LAST_TICK => return None,
+            b"SL" if self.kernel.to_come? > LAST_TICK => return None,
             _ => draft,
         })
     }
@@ -268,7 +276,7 @@ impl Maker {
     fn activation(&mut self) -> Option<Draft> {
         let plain = match self.kind {
             Kind::Contended | Kind::Writers | Kind::Queues => 95,
-            Kind::Idle => 20,
+            Kind::Idle | Kind::Late => 20,
             Kind::Valid | Kind::Damaged | Kind::Turns => 50,
         };
         if self.random.percent(plain) {

@@ -43,12 +43,13 @@ impl Maker {
 
     /// A call that can't be accepted yet, so that declarations may go on.
     fn too_early(&mut self) {
-        let draft = match self.random.below(6) {
+        let draft = match self.random.below(7) {
             0 => Draft::new(b"TE"),
             1 => Draft::new(b"CO"),
             2 => Draft::new(b"RE").first(1),
             3 => Draft::new(b"RE").at(0),
             4 => Draft::new(b"TR").list(&[0]),
+            5 => Draft::new(b"SL"),
             _ => Draft::new(b"EN"),
         };
         self.put(draft);
@@ -71,7 +72,7 @@ impl Maker {
         match (self.kind, mark) {
             (Kind::Contended, b"DT") => self.random.between(8, 32),
             (Kind::Contended, b"DS" | b"DB") => self.random.between(2, 6),
-            (Kind::Idle, b"DT") => self.random.between(2, 16),
+            (Kind::Idle | Kind::Late, b"DT") => self.random.between(2, 16),
             (Kind::Writers, b"DT") => self.random.between(5, 16),
             (Kind::Writers, b"DB") => self.random.between(2, 4),
             (Kind::Writers, b"IT") => self.random.between(1, 2),

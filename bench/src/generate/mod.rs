@@ -7,6 +7,7 @@ mod bolts;
 mod calls;
 mod damage;
 mod declare;
+mod late;
 mod queues;
 mod stray;
 mod turns;
@@ -25,8 +26,8 @@ pub enum Kind {
     Damaged,
     /// Many tasks after few semaphores and bolts.
     Contended,
-    /// Schedules, delays and many ticks, often around midnight; among them ticks
-    /// that are refused for one bit.
+    /// Schedules, delays, many ticks and sleeps, often around midnight; among them
+    /// ticks and sleeps that are refused for one bit.
     Idle,
     /// Readers and writers of few bolts; while they wait they are held, go on
     /// with another priority, or end.
@@ -36,9 +37,11 @@ pub enum Kind {
     Turns,
     /// Many tasks that wait for one of few semaphores, and few who release.
     Queues,
+    /// As idle, but close to the end of the clock.
+    Late,
 }
 
-pub const KINDS: [Kind; 7] = [
+pub const KINDS: [Kind; 8] = [
     Kind::Valid,
     Kind::Damaged,
     Kind::Contended,
@@ -46,6 +49,7 @@ pub const KINDS: [Kind; 7] = [
     Kind::Writers,
     Kind::Turns,
     Kind::Queues,
+    Kind::Late,
 ];
 
 impl Kind {
@@ -58,7 +62,13 @@ impl Kind {
             Kind::Writers => "writers",
             Kind::Turns => "turns",
             Kind::Queues => "queues",
+            Kind::Late => "late",
         }
+    }
+
+    /// Whether most of the script is time that goes by.
+    fn is_idle(self) -> bool {
+        matches!(self, Kind::Idle | Kind::Late)
     }
 
     pub fn from_name(name: &str) -> Option<Kind> {
@@ -66,7 +76,8 @@ impl Kind {
     }
 }
 
-/// A script of this kind with so many records; damage may change their number a little.
+/// A script of this kind with so many records; damage may change their number a
+/// little, and what leads to the end of the clock comes on top.
 pub fn script(kind: Kind, seed: u64, records: usize) -> Vec<u8> {
     let mut maker = Maker {
         kind,
@@ -76,13 +87,18 @@ pub fn script(kind: Kind, seed: u64, records: usize) -> Vec<u8> {
         left: records,
     };
     maker.declarations();
+    if kind == Kind::Late {
+        maker.go_near_the_end();
+    }
     while maker.left > 0 {
         if kind == Kind::Damaged && maker.random.percent(45) {
             maker.damaged_record();
         } else if kind == Kind::Damaged && maker.random.once_in(4) {
             maker.put_stray();
-        } else if kind == Kind::Idle && maker.random.once_in(25) {
+        } else if kind.is_idle() && maker.random.once_in(25) {
             maker.put_stray_tick();
+        } else if kind.is_idle() && maker.random.once_in(20) {
+            maker.put_sleeps();
         } else {
             let call = maker.call();
             maker.put(call);
@@ -111,8 +127,20 @@ impl Maker {
     fn put_bytes(&mut self, record: &[u8]) {
         if self.left > 0 {
             self.left -= 1;
-            self.kernel.step(record);
-            self.script.extend_from_slice(record);
+            self.put_on_top(record);
+        }
+    }
+
+    /// A record that doesn't count.
+    fn put_on_top(&mut self, record: &[u8]) {
+        self.kernel.step(record);
+        self.script.extend_from_slice(record);
+    }
+
+    /// Several sleeps in a row, whatever is to come.
+    fn put_sleeps(&mut self) {
+        for _ in 0..self.random.between(2, 5) {
+            self.put(Draft::new(b"SL"));
         }
     }
 

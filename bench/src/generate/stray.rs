@@ -15,9 +15,10 @@ impl Maker {
         self.put_with_stray_bit(draft);
     }
 
-    /// A tick that isn't one.
+    /// A tick or a sleep that isn't one.
     pub fn put_stray_tick(&mut self) {
-        self.put_with_stray_bit(Draft::new(b"TI"));
+        let mark = self.random.pick(&[b"TI", b"SL"]);
+        self.put_with_stray_bit(Draft::new(mark));
     }
 
     fn put_with_stray_bit(&mut self, draft: Draft) {

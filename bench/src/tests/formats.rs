@@ -67,6 +67,7 @@ fn lengths_and_marks_are_2() {
         assert_eq!(line.unwrap(), "2 0 0 0 0 0 0");
     }
     refused(r(b"ti"), 2);
+    refused(r(b"sl"), 2);
     refused(r(b"IT"), 2);
 }
 

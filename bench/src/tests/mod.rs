@@ -6,6 +6,8 @@ mod marked;
 mod on_file;
 mod readings;
 mod scripts;
+mod sleep;
+mod to_come;
 mod turns;
 mod unsound;
 mod unused;

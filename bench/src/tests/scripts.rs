@@ -1,5 +1,6 @@
 //! The random and the long scripts, and the reading of scripts in batches.
 
+use crate::expect::{expect, Reached};
 use crate::generate::{script, Kind, KINDS};
 use crate::heavy;
 use crate::kernel::{Kernel, List, Priority, Wait};
@@ -22,7 +23,7 @@ fn the_same_seed_gives_the_same_script() {
 }
 
 /// Refusal 1 in a script would mean that a step left an unsound kernel behind,
-/// and refusal 16 that it left a wrong task on file.
+/// and refusal 16 that it left a wrong task or instant on file.
 #[test]
 fn no_script_reaches_refusal_1_or_16() {
     for seed in 0..200 {
@@ -231,6 +232,7 @@ fn long_scripts_are_accepted_whole_with_32_tasks_alive() {
     for bytes in [
         heavy::ticks(3000),
         heavy::calls(3000),
+        heavy::sleeps(3000),
         heavy::readers(70_000),
         heavy::queues(3000),
     ] {
@@ -240,6 +242,28 @@ fn long_scripts_are_accepted_whole_with_32_tasks_alive() {
         }
         assert!(kernel.tasks.iter().all(|t| t.alive()));
     }
+}
+
+#[test]
+fn random_scripts_reach_what_is_demanded() {
+    let mut reached = Reached::default();
+    for seed in 0..125 {
+        for kind in KINDS {
+            expect(&script(kind, seed, 200), &mut reached);
+        }
+    }
+    assert_eq!(reached.missing(), [""; 0]);
+}
+
+#[test]
+fn what_many_scripts_do_not_reach_is_missing() {
+    let mut reached = Reached::default();
+    for _ in 0..999 {
+        expect(b"", &mut reached);
+    }
+    assert_eq!(reached.missing(), [""; 0]);
+    expect(b"", &mut reached);
+    assert_eq!(reached.missing().len(), 16);
 }
 
 #[test]

@@ -19,11 +19,12 @@ fn kernel() -> Kernel {
     ])
 }
 
-/// The number after a change; the task on file is right in any case.
+/// The number after a change; what is on file is right in any case.
 fn number_after(change: impl Fn(&mut Kernel)) -> u8 {
     let mut kernel = kernel();
     change(&mut kernel);
     kernel.on_file = kernel.running();
+    kernel.to_come = kernel.look_ahead();
     let before = kernel.clone();
     let answer = kernel.step(b"not a record");
     if answer.number == 1 {

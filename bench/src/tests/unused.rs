@@ -19,6 +19,7 @@ fn forms() -> Vec<(Draft, &'static str)> {
         (r(b"DC").first(7), "2-11 16-23"),
         (r(b"EN"), "2-23"),
         (r(b"TI"), "2-23"),
+        (r(b"SL"), "2-23"),
     ];
     for mark in [b"TE", b"SU", b"PR", b"TG", b"EI", b"XI"] {
         forms.push((r(mark).on(1), "3-23"));
@@ -138,7 +139,7 @@ fn a_lone_stray_bit_is_found() {
             }
         }
     }
-    let text = "one bit alone in an unused byte 10008: 74 forms, 1251 bytes, 10008 bits";
+    let text = "one bit alone in an unused byte 10184: 75 forms, 1273 bytes, 10184 bits";
     assert_eq!(found.to_string(), text);
 }
 
@@ -191,11 +192,14 @@ fn damaged_scripts_spoil_every_byte_of_every_form() {
 }
 
 #[test]
-fn idle_scripts_have_ticks_that_a_bit_spoils() {
-    let mut places = [0; RECORD];
+fn idle_scripts_have_ticks_and_sleeps_that_a_bit_spoils() {
+    let mut places = [[0; RECORD]; 2];
+    let forms = [Mark::Tick, Mark::Sleep].map(|mark| (mark as u8, 0, 0, 0));
     for stray in (0..200).flat_map(|seed| strays(Kind::Idle, seed)) {
-        assert_eq!(stray.form, (Mark::Tick as u8, 0, 0, 0));
-        places[stray.place] += 1;
+        let form = forms.iter().position(|&form| form == stray.form);
+        places[form.unwrap()][stray.place] += 1;
     }
-    assert!(places[2..].iter().all(|&count| count > 10), "{places:?}");
+    for counts in places {
+        assert!(counts[2..].iter().all(|&count| count > 5), "{counts:?}");
+    }
 }

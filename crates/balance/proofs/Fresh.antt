@@ -17,10 +17,11 @@ use Rattle.lock.proofs.Bools.{byBool, byEq, contra, both}
 use Rattle.lock.proofs.Levels.{bolt-same, bolt-other}
 use Rattle.task.specs.State.{noTask}
 use Rattle.machine.specs.declared.State.{State}
-use Rattle.machine.specs.declared.Running.{Running}
+use Rattle.machine.specs.declared.OnFile.{OnFile}
 use Rattle.machine.specs.declared.Stepped.{Stepped}
-use Rattle.machine.specs.State.{taskAt, enabledAt, freshTask, nothing, withClock, withRunning}
+use Rattle.machine.specs.State.{taskAt, enabledAt, freshTask, nothing, withClock, withFile}
 use Rattle.machine.specs.Running.{runner}
+use Rattle.machine.specs.NextEvent.{fileOf}
 use Rattle.machine.specs.Sorts.{declares}
 use Rattle.machine.specs.Calls.{addTask, addSemaphore, addBolt, addInterrupt, declaration as declaredAs}
 use Rattle.machine.specs.Step.{refuse, declared, orRefuse, carryOut, step}
@@ -102,8 +103,8 @@ module _ (day : ℕ) (k : State) (h : StateOk day k) (y : Young k) (c : Call) wh
   young-declared p =
       declaration-cases (c .head .mark) c k Young (λ e. young-DT (as-mark e p)) (λ e. young-DS) (λ e. young-DB (as-mark e p)) (λ e. young-IT (as-mark e p)) (λ e. young-DC) y
 
-young-refiled : (d : State) (r : Running) → Young d → Young (withRunning r d)
-young-refiled d r y = record { instant = y .instant; unbegun = y .unbegun; tasks = y .tasks; bolts = y .bolts; enabled = y .enabled }
+young-refiled : (d : State) (f : OnFile) → Young d → Young (withFile f d)
+young-refiled d f y = record { instant = y .instant; unbegun = y .unbegun; tasks = y .tasks; bolts = y .bolts; enabled = y .enabled }
 
 -- ---- a record that is no accepted call
 
@@ -132,7 +133,7 @@ module _ (day : ℕ) (k : State) (h : StateOk day k) (s : List ℕ) (P : Read �
 module _ (day : ℕ) (isDay : IsDay day) where
   young-step : (k : State) → StateOk day k → Young k → (s : List ℕ) → not (accepted (step day k s .answer) && not (isDeclaration (opened s .answer))) ≡ true → Young (step day k s .state)
   young-step k h y s =
-      no-call day k h s (λ r z. Young (z .state)) (λ r n. unfold refuse in y) (λ d l p. unfold declared in young-refiled _ (runner k) (young-declared day k h y (callWith d l) p))
+      no-call day k h s (λ r z. Young (z .state)) (λ r n. unfold refuse in y) (λ d l p. unfold declared in young-refiled _ (fileOf k) (young-declared day k h y (callWith d l) p))
 
   young-all : (rs : List (List ℕ)) (k : State) → StateOk day k → Young k → AllOctets rs → without acceptedCall (log day k rs) ≡ true → StateOk day (final day k rs) × Young (final day k rs)
   unfolding AllOctets without log final

@@ -4,6 +4,7 @@ pub mod Calls
 pub mod Serving
 pub mod Steps
 pub mod Balanced
+pub mod InTicks
 pub mod Fresh
 pub mod Presets
 pub mod Begun

@@ -71,7 +71,7 @@ loses k r a i =
     && ((eqb (has i (a .sets .due)) 1 && taskAt (k .tasks) i .alive) || (accepted a && prevents (opened r .answer) i))
 
 pub record RightStep (day : ℕ) (k : State) (r : List ℕ) (a : Answer) (z : State) : Type 0 where
-  -- every kernel on the way passes the kernel test with the rule's task on file, so refusals 1 and 16 never arise
+  -- every kernel on the way passes the kernel test with what the rules give on file, so refusals 1 and 16 never arise
   pub tested : kernelRefusal day k ≡ 0
   pub never-1 : a .number ≢ 1
   pub never-16 : a .number ≢ 16

@@ -2,3 +2,4 @@
 pub mod Counting
 pub mod Fresh
 pub mod Balance
+pub mod InTicks

@@ -1,17 +1,18 @@
 -- The first of some moments that is later than n: none of them comes between, and it is one of them.
-use mathlib.Core.Path.{_≡_, refl}
+use mathlib.Core.Path.{_≡_, refl, sym, ap, _∙_}
 use mathlib.Core.Logic.{_⊎_, inl, inr, ⊎-elim}
-use mathlib.Core.Bool.{Bool, true, false, cond, _&&_, _||_, or-true, or-assoc}
+use mathlib.Core.Bool.{Bool, true, false, cond, _&&_, _||_, or-true, or-assoc, and-false}
 use mathlib.Core.List.{List, [], _∷_, _++_}
 use Prim.Native.Nat.{ℕ, _<_}
+use native.Mathlib.Decide.{decLt}
 use native.Mathlib.Omega.{arith}
 use lib.Dec.{eqb, ltb}
-use borrow.Author.Tests.{ltb-true, ltb-false, lt-ltb, eq-eqb, ne-eqb}
+use borrow.Author.Tests.{ltb-true, ltb-false, lt-ltb, le-ltb, eqb-true, eq-eqb, ne-eqb}
 use Rattle.calendar.specs.declared.Instant.{Instant}
 use Rattle.calendar.specs.declared.Moment.{Moment}
 use Rattle.calendar.specs.declared.Moment.the-variants.{Never, At}
 use Rattle.calendar.specs.Times.{instant}
-use Rattle.calendar.specs.Moments.{isAt, hasAt, before, upTo, sooner, firstAfter}
+use Rattle.calendar.specs.Moments.{isAt, hasAt, before, sameMoment, upTo, sooner, firstAfter}
 
 -- ---- one moment
 
@@ -23,6 +24,20 @@ up-to-before l (At n) x h = go (ltb (n .0) l) refl h
     go : (b : Bool) → ltb (n .0) l ≡ b → x < cond b (n .0) l → (x < l) × (ltb x (n .0) ≡ true)
     go true e h = (omega (arith, ltb-true (n .0) l e), lt-ltb x (n .0) h)
     go false e h = (h, lt-ltb x (n .0) (omega (arith, ltb-false (n .0) l e)))
+
+contra : {A : Type 0} {b : Bool} → b ≡ true → b ≡ false → A
+contra e f = absurd (let z : _≡_ {A = ℕ} 0 1 = cc in omega arith)
+
+-- The same moment is the same.
+pub moment-same : (a b : Moment) → sameMoment a b ≡ true → a ≡ b
+moment-same Never Never e = refl
+moment-same Never (At n) e = contra e refl
+moment-same (At m) Never e = contra e refl
+moment-same (At m) (At n) e = ap (λ (x : ℕ). At (instant x)) (eqb-true (m .0) (n .0) e)
+
+pub same-moment : (a : Moment) → sameMoment a a ≡ true
+same-moment Never = refl
+same-moment (At n) = eq-eqb (n .0) (n .0) refl
 
 -- ---- one more moment
 
@@ -77,3 +92,60 @@ pub has-append : (x : Instant) (a b : List Moment) → hasAt x (a ++ b) ≡ (has
 unfolding hasAt
 has-append x [] b = refl
 has-append x (m ∷ a) b = rw (has-append x a b, or-assoc)
+
+-- ---- the first of two lists
+
+-- The earlier of two.
+abbrev pub earlier : Moment → Moment → Moment
+earlier Never s = s
+earlier (At m) s = cond (before m s) (At m) s
+
+before-split : (m : Instant) (a b : Moment) → before m (earlier a b) ≡ (before m a && before m b)
+before-split m Never b = refl
+before-split m (At x) Never = and-self (ltb (m .0) (x .0))
+  where
+    and-self : (c : Bool) → c ≡ (c && true)
+    and-self true = refl
+    and-self false = refl
+before-split m (At x) (At y) = go (decLt (x .0) (y .0))
+  where
+    less : (c : Bool) → ltb (m .0) (x .0) ≡ c → x .0 < y .0 → c ≡ (c && ltb (m .0) (y .0))
+    less true e l = rw (lt-ltb (m .0) (y .0) (omega (arith, ltb-true (m .0) (x .0) e)))
+    less false e l = refl
+
+    more : (c : Bool) → ltb (m .0) (y .0) ≡ c → (x .0 < y .0 → ⊥) → c ≡ (ltb (m .0) (x .0) && c)
+    more true e l = rw (lt-ltb (m .0) (x .0) (omega (arith, ltb-true (m .0) (y .0) e)))
+    more false e l = rw (and-false (ltb (m .0) (x .0)))
+
+    go : Dec (x .0 < y .0) → before m (cond (ltb (x .0) (y .0)) (At x) (At y)) ≡ (ltb (m .0) (x .0) && ltb (m .0) (y .0))
+    go (yes l) = rw (lt-ltb (x .0) (y .0) l) (less (ltb (m .0) (x .0)) refl l)
+    go (no l) = rw (le-ltb (x .0) (y .0) (omega arith)) (more (ltb (m .0) (y .0)) refl l)
+
+-- What is later than m isn't earlier than what isn't.
+passed-by : (m : Instant) (a b : Moment) → before m a ≡ true → before m b ≡ false → b ≡ earlier a b
+passed-by m Never b e f = refl
+passed-by m (At x) Never e f = contra refl f
+passed-by m (At x) (At y) e f = rw (le-ltb (x .0) (y .0) (omega (arith, ltb-true (m .0) (x .0) e, ltb-false (m .0) (y .0) f)))
+
+earlier-more : (m : Instant) (a b : Moment) → earlier (At m) (earlier a b) ≡ earlier (earlier (At m) a) b
+earlier-more m a b = rw (before-split m a b) (go (before m a) (before m b) refl refl)
+  where
+    go : (c d : Bool) → before m a ≡ c → before m b ≡ d → cond (c && d) (At m) (earlier a b) ≡ earlier (cond c (At m) a) b
+    go true true e f = rw f
+    go true false e f = rw f (sym (passed-by m a b e f))
+    go false d e f = refl
+
+-- The first of a list and another is the earlier of their firsts.
+module _ (n : Instant) where
+  sooner-earlier : (m a b : Moment) → sooner n m (earlier a b) ≡ earlier (sooner n m a) b
+  sooner-earlier Never a b = refl
+  sooner-earlier (At m) a b = go (ltb (n .0) (m .0))
+    where
+      go : (c : Bool) → cond (c && before m (earlier a b)) (At m) (earlier a b) ≡ earlier (cond (c && before m a) (At m) a) b
+      go true = earlier-more m a b
+      go false = refl
+
+  pub first-append : (xs ys : List Moment) → firstAfter n (xs ++ ys) ≡ earlier (firstAfter n xs) (firstAfter n ys)
+  unfolding firstAfter
+  first-append [] ys = refl
+  first-append (x ∷ xs) ys = ap (λ (s : Moment). sooner n x s) (first-append xs ys) ∙ sooner-earlier x (firstAfter n xs) (firstAfter n ys)

@@ -2,7 +2,7 @@
 use mathlib.Core.Bool.{Bool, true, false, cond, _&&_, _||_}
 use mathlib.Core.List.{List, [], _∷_}
 use Prim.Native.Nat.{ℕ}
-use lib.Dec.{eqb, ltb}
+use lib.Dec.{eqb, leb, ltb}
 use Rattle.calendar.specs.declared.Instant.{Instant}
 use Rattle.calendar.specs.declared.Moment.{Moment}
 use Rattle.calendar.specs.declared.Moment.the-variants.{Never, At}
@@ -21,6 +21,23 @@ hasAt n (m ∷ ms) = isAt n m || hasAt n ms
 abbrev pub before : Instant → Moment → Bool
 before n Never = true
 before n (At m) = ltb (n .0) (m .0)
+
+-- The same instant, or none both times.
+abbrev pub sameMoment : Moment → Moment → Bool
+sameMoment Never Never = true
+sameMoment Never (At n) = false
+sameMoment (At m) Never = false
+sameMoment (At m) (At n) = eqb (m .0) (n .0)
+
+-- It is an instant, and l at the latest.
+abbrev pub comesBy : ℕ → Moment → Bool
+comesBy l Never = false
+comesBy l (At n) = leb (n .0) l
+
+-- Its instant, or n where it is none.
+abbrev pub instantOr : Instant → Moment → Instant
+instantOr n Never = n
+instantOr n (At m) = m
 
 -- The instant as a number, but at most l.
 abbrev pub upTo : ℕ → Moment → ℕ

@@ -3,7 +3,7 @@ ghost use mathlib.Core.Path.{_≡_};
 ghost use Prim.Native.Nat.{_≤_};
 ghost use Rattle.calendar.specs.Limits.{day, mostInstant, isTimeOfDay, isDuration, isPeriod};
 ghost use Rattle.calendar.specs.Times.{plus, timeOfDay, until};
-ghost use Rattle.calendar.specs.Moments.{upTo};
+ghost use Rattle.calendar.specs.Moments.{sameMoment, comesBy, instantOr, upTo};
 ghost use Rattle.calendar.specs.Dues.{firstDue, lastAllowed, allowed, nextDue};
 
 // Instants, durations and times of day are counted in ticks of one millisecond.
@@ -92,6 +92,42 @@ impl Instant {
 }
 
 impl Moment {
+    // The same instant, or none both times.
+    pub fn is_same(self, other: Moment) -> bool
+        ensures { λ r. ⌜ r ≡ sameMoment self other ⌝ }
+    {
+        match self {
+            Moment::Never => match other {
+                Moment::Never => true,
+                Moment::At(_) => false,
+            },
+            Moment::At(m) => match other {
+                Moment::Never => false,
+                Moment::At(n) => m.0 == n.0,
+            },
+        }
+    }
+
+    // An instant, and l at the latest.
+    pub fn is_by(self, l: u64) -> bool
+        ensures { λ r. ⌜ r ≡ comesBy l self ⌝ }
+    {
+        match self {
+            Moment::Never => false,
+            Moment::At(n) => n.0 <= l,
+        }
+    }
+
+    // The instant, or n where there is none.
+    pub fn instant_or(self, n: Instant) -> Instant
+        ensures { λ r. ⌜ r ≡ instantOr n self ⌝ }
+    {
+        match self {
+            Moment::Never => n,
+            Moment::At(m) => m,
+        }
+    }
+
     // The instant as a number, but at most l.
     pub fn up_to(self, l: u64) -> u64
         ensures { λ r. ⌜ r ≡ upTo l self ⌝ }

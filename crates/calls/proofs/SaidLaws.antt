@@ -11,8 +11,7 @@ use Rattle.calendar.proofs.Moments.{up-to-before}
 use Rattle.lock.proofs.Bools.{byBool}
 use Rattle.record.specs.Refusals.{unless}
 use Rattle.machine.specs.NextEvent.{nextEvent}
-use Rattle.machine.specs.Running.{sameRunning}
-use Rattle.machine.specs.Test.{valid, filed, kernelRefusal}
+use Rattle.machine.specs.Test.{sameFile, valid, filed, kernelRefusal}
 use Rattle.machine.specs.declared.State.{State}
 use Rattle.machine.proofs.Filing.{taken-valid}
 use Rattle.machine.proofs.Passed.{parts}
@@ -20,8 +19,8 @@ use Rattle.survey.specs.declared.Survey.{Survey}
 use Rattle.survey.specs.Looks.{surveyed}
 
 module _ (day : ℕ) (k : State) {v : Survey} (e : v ≡ surveyed day k) where
-  -- n is what was made of it and of the task on file.
-  pub said-number : {n : ℕ} → n ≡ unless (v .ok) 1 (unless (sameRunning (k .file .running) (v .runner)) 16 0) → n ≡ kernelRefusal day k
+  -- n is what was made of it and of what is on file.
+  pub said-number : {n : ℕ} → n ≡ unless (v .ok) 1 (unless (sameFile (k .file) (record { running = v .runner; next = v .next })) 16 0) → n ≡ kernelRefusal day k
   unfolding surveyed kernelRefusal filed
   said-number f = f ∙ byBool (valid day k) (λ t. rw (e, t)) (λ t. rw (e, t))
 

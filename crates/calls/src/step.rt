@@ -4,7 +4,7 @@ ghost use mathlib.Core.Bool.{true};
 ghost use Rattle.calendar.specs.Limits.{day};
 ghost use Rattle.record.specs.Reading.{numberOf, callWith};
 ghost use Rattle.machine.specs.Running.{runner};
-ghost use Rattle.machine.specs.Test.{valid, kernelRefusal};
+ghost use Rattle.machine.specs.Test.{kernelRefusal};
 ghost use Rattle.machine.specs.Sorts.{sortOf, placeOf};
 ghost use Rattle.machine.specs.Refusals.{formalRefusal};
 ghost use Rattle.machine.specs.Step.{settle, step};
@@ -12,12 +12,15 @@ ghost use Rattle.refusals.specs.Inner.{aboutOne};
 use calendar::LAST_INSTANT;
 use changes::change_of;
 use changes::runner_at;
+use coming::next_event;
+use coming::soonest;
 use declaring::declared;
 use granting::is_missing;
 use granting::no_writers;
 use granting::writers_of;
 use interrupts::interrupted;
 use layout::Head;
+use layout::Mark;
 use layout::Numbers;
 use look::survey;
 use machine::Running;
@@ -40,12 +43,12 @@ use serving::ends::finished;
 use serving::ends::no_sets;
 use sets::nobody_turned;
 use sets::put_marks;
-use ticks::ticked;
+use ticks::passed;
 use urgency::file::kernel_refusal;
 
 // A call about task i and the locks: what refuses it, or what it does.
 fn done_to(mut k: State, i: usize, sort: Sort, h: Head, list: Numbers, r: Running) -> Stepped
-    requires { ⌜ valid day k ≡ true ⌝ }
+    requires { ⌜ kernelRefusal day k ≡ 0 ⌝ }
     requires { ⌜ r ≡ runner k ⌝ }
     requires { ⌜ formalRefusal day (k .counts) (k .begun) (callWith h list) ≡ 0 ⌝ }
     requires { ⌜ sort ≡ sortOf (h .mark) ⌝ }
@@ -56,7 +59,9 @@ fn done_to(mut k: State, i: usize, sort: Sort, h: Head, list: Numbers, r: Runnin
     let t = k.tasks[i];
     let locks = k.locks;
     let now = k.now;
-    let number = state_refusal(sort, h, list, r, t, locks, now);
+    let file = k.file;
+    let mut next = file.next;
+    let number = state_refusal(sort, h, list, r, t, locks, now, next);
     if number != 0 {
         return answered(k, number, r);
     }
@@ -70,7 +75,10 @@ fn done_to(mut k: State, i: usize, sort: Sort, h: Head, list: Numbers, r: Runnin
     k.tasks[i] = task;
     k.locks = locks;
     let turned = nobody_turned().with_turn(i, t, task);
-    finished(k, put_marks(i, c.marks, no_sets()), turned)
+    if soonest(now, t) != soonest(now, task) {
+        next = next_event(k, now);
+    }
+    finished(k, put_marks(i, c.marks, no_sets()), turned, next)
 }
 
 // The number of a reader's answer: 0, or the refusal's.
@@ -83,7 +91,7 @@ fn number_of(a: Read) -> u8
     }
 }
 
-// The step on a kernel that is refused with neither 1 nor 16: its running task is on file.
+// The step on a kernel that is refused with neither 1 nor 16: its running task and next event are on file.
 pub fn step_on(k: State, s: &[u8]) -> Stepped
     requires { ⌜ kernelRefusal day k ≡ 0 ⌝ }
     ensures { λ z. ⌜ z ≡ step day k (now (s .entry)) ⌝ }
@@ -91,7 +99,7 @@ pub fn step_on(k: State, s: &[u8]) -> Stepped
     let file = k.file;
     let r = file.running;
     if is_tick(s) {
-        return ticked(k, r);
+        return passed(k, Mark::TI, r);
     }
     let counts = k.counts;
     let reading = admit(counts, k.begun, s);
@@ -103,10 +111,10 @@ pub fn step_on(k: State, s: &[u8]) -> Stepped
     let mark = head.mark;
     let sort = sort_of(mark);
     if is_declaring(sort) {
-        return declared(k, head, r);
+        return declared(k, head);
     }
     if is_ticking(sort) {
-        return ticked(k, r);
+        return passed(k, mark, r);
     }
     if !is_about_one(sort) {
         return interrupted(k, head);
@@ -124,13 +132,12 @@ pub fn step(k: State, s: &[u8]) -> Stepped
     let v = survey(k);
     let now = k.now;
     let file = k.file;
-    let stored = file.running;
-    let found = v.runner;
-    let refusal = kernel_refusal(v.ok, stored, found);
+    let runner = v.runner;
+    let next = v.next;
+    let refusal = kernel_refusal(v.ok, file, runner, next);
     if refusal != 0 {
         return answered(k, refusal, Running::Idle);
     }
-    let next = v.next;
     if now.0 + 1 < next.up_to(LAST_INSTANT + 1) {
         if is_tick(s) {
             return quiet_tick(k);

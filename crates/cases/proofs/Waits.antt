@@ -11,6 +11,7 @@ use Rattle.calendar.specs.Times.{instant}
 use Rattle.lock.specs.Locks.{emptyBolt}
 use Rattle.lock.specs.declared.Wait.the-variants.{Nothing}
 use Rattle.schedule.specs.Alarms.{noAlarm}
+use Rattle.schedule.specs.Coming.{nextOf}
 use Rattle.schedule.specs.declared.Schedule.{Schedule}
 use Rattle.task.specs.Coming.{comes}
 use Rattle.task.specs.State.{runnable}
@@ -83,7 +84,7 @@ lone clock now t =
       clock = clock;
       now = instant now;
       begun = true;
-      file = record { running = cond (runnable t) (Runs 0) Idle };
+      file = record { running = cond (runnable t) (Runs 0) Idle; next = nextOf (t .schedule .alarm) };
     }
 
 pub asleep : (c n : ℕ) (kept : Kept) (s : Schedule) → runner (lone c n (only false kept s)) ≡ Idle

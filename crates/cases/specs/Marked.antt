@@ -14,7 +14,7 @@ use Rattle.machine.specs.declared.Running.the-variants.{Idle, Runs}
 use Rattle.machine.specs.State.{taskAt, nothing}
 use Rattle.machine.specs.Step.{plainAnswer, step}
 use Rattle.machine.specs.Log.{final, log}
-use Rattle.machine.specs.Scripts.{row, hours, declareTask, declareSemaphore, declareInterrupt, declareClock, activate, terminate, resumeAfter, request, release, oneTick, AT_ACTIVATE_, AT_ALL_UNTIL_ACTIVATE_, AFTER_ACTIVATE_, ALL_DURING_ACTIVATE_, WHEN_AFTER_ACTIVATE_}
+use Rattle.machine.specs.Scripts.{row, hours, declareTask, declareSemaphore, declareInterrupt, declareClock, activate, terminate, resumeAfter, request, release, oneTick, sleep, AT_ACTIVATE_, AT_ALL_UNTIL_ACTIVATE_, AFTER_ACTIVATE_, ALL_DURING_ACTIVATE_, WHEN_AFTER_ACTIVATE_}
 
 -- The answers to a script, and the kernel that it leaves.
 abbrev pub answers : List (List ℕ) → List Answer
@@ -55,6 +55,23 @@ threeLines p d =
 -- What the evening answers to the declarations, the call and the ticks, with the first due after n of them.
 abbrev pub eveningLines : ℕ → ℕ → List Answer
 eveningLines n d = quiet Idle ∷ quiet Idle ∷ quiet Idle ∷ row (n - 1) (quiet Idle) ++ threeLines (hours 2) d
+
+-- The evening with three sleeps instead of ticks, and with a fourth.
+abbrev pub slept : ℕ → List (List ℕ)
+slept clock = evening clock ++ sleep ∷ sleep ∷ sleep ∷ []
+
+abbrev pub fourSleeps : ℕ → List (List ℕ)
+fourSleeps clock = slept clock ++ sleep ∷ []
+
+-- The lines of the three dues alone. Nothing is to come after them.
+abbrev pub sleptLines : List Answer
+sleptLines =
+    quiet Idle ∷ quiet Idle ∷ quiet Idle
+    ∷ line 0 (Runs 0) 1 1 0 0 0
+    ∷ line 0 (Runs 0) 1 0 0 0 0
+    ∷ line 0 (Runs 0) 1 0 0 1 0
+    ∷ plainAnswer 17 (Runs 0)
+    ∷ []
 
 -- M4's: it is 13:00, after an hour of ticks since 12:00.
 abbrev pub anHour : List (List ℕ)
@@ -101,6 +118,12 @@ pub record MarkedCases : Type 0 where
   -- At 23:00 the first comes due after 23 h, the others 2 h and 4 h later.
   pub m3 : (d : ℕ) → hours 27 + d ≤ 2 ^ 40
       → answers (evening (hours 23) ++ row (hours 27 + d) oneTick) ≡ eveningLines (hours 23) d
+  -- M2 with three sleeps instead of its ticks: each leads to the next due, and a fourth is refused with 17.
+  pub m2-sleeps : answers (fourSleeps (hours 12)) ≡ sleptLines
+  pub m2-instant : after (slept (hours 12)) .now .0 ≡ hours 14
+  -- So it is with M3.
+  pub m3-sleeps : answers (fourSleeps (hours 23)) ≡ sleptLines
+  pub m3-instant : after (slept (hours 23)) .now .0 ≡ hours 27
   -- A start AT this very time is made by the call itself; with UNTIL that same time no other follows.
   pub m4 : (d : ℕ) → d ≤ 2 ^ 40
       → answers (declareTask 5 ∷ declareClock (hours 12) ∷ (AT hours 12 ALL hours 1 UNTIL hours 12 ACTIVATE 0) ∷ row d oneTick)

@@ -8,9 +8,9 @@ use lib.Dec.{leb, ltb}
 use borrow.Author.Tests.{leb-true, ltb-true}
 use Rattle.layout.specs.Marks.{form}
 use Rattle.layout.specs.declared.Call.{Call}
+use Rattle.calendar.specs.declared.Moment.{Moment}
 use Rattle.layout.specs.declared.Head.{Head}
 use Rattle.layout.specs.declared.Mark.{Mark}
-use Rattle.layout.specs.declared.Mark.the-variants.{TI}
 use Rattle.layout.proofs.MarksLaws.{is-mark}
 use Rattle.lists.specs.Lists.{distinct}
 use Rattle.record.specs.Reading.{callWith}
@@ -27,11 +27,12 @@ use Rattle.machine.specs.declared.Sort.{Sort}
 use Rattle.machine.specs.declared.Sort.the-variants.{Declaration, OneTask, TheRunner, ListAsked, ListGiven, AnInterrupt, EveryTask}
 use Rattle.machine.specs.declared.Stepped.{Stepped}
 use Rattle.machine.specs.State.{mostTasks, taskAt}
+use Rattle.machine.specs.NextEvent.{nextEvent}
 use Rattle.machine.specs.Running.{runner}
 use Rattle.machine.specs.Test.{valid, kernelRefusal}
 use Rattle.machine.specs.Sorts.{sortOf, declaring, declares, placeOf, runnerAt}
 use Rattle.machine.specs.Refusals.{listDeclared, declaredBy, formalRefusal, admitted, refusalBy, stateRefusal}
-use Rattle.machine.specs.Calls.{declaration, tick, interruptBy, workBy}
+use Rattle.machine.specs.Calls.{declaration, arrive, arrival, interruptBy, workBy}
 use Rattle.machine.specs.Step.{refuse, declared, finish, orRefuse, carryOut, settle, step}
 use Rattle.machine.proofs.Urgency.{Below, runner-below}
 use Rattle.machine.proofs.Passed.{Formal, formal}
@@ -108,11 +109,12 @@ module _ (day : ℕ) (k : State) (h : Head) (l : List ℕ) where
   refused-as (suc n) m s e f z = ap (refuse k (suc n)) e ∙ ap (λ x. orRefuse k x s) f
 
   -- What the state refuses, seen from the task i that the call is about.
-  pub ground : {r : Running} {s : Sort} {i n : ℕ} → r ≡ runner k → s ≡ sortOf (h .mark) → i ≡ placeOf s h r
-      → n ≡ refusalBy (h .mark) call r (taskAt (k .tasks) i) (k .locks) (k .now) → n ≡ stateRefusal (h .mark) k call
-  ground {r} {s} e q p g =
-      g ∙ ap (λ (x : ℕ). refusalBy (h .mark) call r (taskAt (k .tasks) x) (k .locks) (k .now)) (p ∙ ap (λ (x : Sort). placeOf x h r) q)
-      ∙ ap (λ (x : Running). refusalBy (h .mark) call x (taskAt (k .tasks) (placeOf (sortOf (h .mark)) h x)) (k .locks) (k .now)) e
+  pub ground : {r : Running} {s : Sort} {i n : ℕ} {m : Moment} → r ≡ runner k → s ≡ sortOf (h .mark) → i ≡ placeOf s h r → m ≡ nextEvent k
+      → n ≡ refusalBy (h .mark) call r (taskAt (k .tasks) i) (k .locks) (k .now) m → n ≡ stateRefusal (h .mark) k call
+  ground {r} {s} {m = m} e q p o g =
+      g ∙ ap (λ (x : ℕ). refusalBy (h .mark) call r (taskAt (k .tasks) x) (k .locks) (k .now) m) (p ∙ ap (λ (x : Sort). placeOf x h r) q)
+      ∙ ap (λ (x : Running). refusalBy (h .mark) call x (taskAt (k .tasks) (placeOf (sortOf (h .mark)) h x)) (k .locks) (k .now) m) e
+      ∙ ap (λ (x : Moment). refusalBy (h .mark) call (runner k) (taskAt (k .tasks) (placeOf (sortOf (h .mark)) h (runner k))) (k .locks) (k .now) x) o
 
   pub settled-refused : {n : ℕ} {r : Running} → r ≡ runner k → n ≡ stateRefusal (h .mark) k call → (n ≡ 0 → ⊥) → refuse k n r ≡ settle day k call
   unfolding settle
@@ -129,7 +131,7 @@ module _ (day : ℕ) (k : State) (h : Head) (l : List ℕ) where
 
   pub settled-declared : declares (h .mark) ≡ true → declared k (declaration (h .mark) call k) ≡ settle day k call
   unfolding settle carryOut declares
-  settled-declared d = let q = declaration-sort (sortOf (h .mark)) d in rw (d, ← refusal-by call (runner k) (taskAt (k .tasks) (placeOf (sortOf (h .mark)) h (runner k))) (k .locks) (k .now) (h .mark) Declaration q)
+  settled-declared d = let q = declaration-sort (sortOf (h .mark)) d in rw (d, ← refusal-by call (runner k) (taskAt (k .tasks) (placeOf (sortOf (h .mark)) h (runner k))) (k .locks) (k .now) (nextEvent k) (h .mark) Declaration q)
 
   pub settled-call : declares (h .mark) ≡ false → stateRefusal (h .mark) k call ≡ 0 → {s : Sort} → s ≡ sortOf (h .mark) → finish k (workBy day s k call) ≡ settle day k call
   unfolding settle carryOut
@@ -139,14 +141,14 @@ module _ (day : ℕ) (k : State) (h : Head) (l : List ℕ) where
   pub settled-interrupt : sortOf (h .mark) ≡ AnInterrupt → finish k (interruptBy day (h .mark) k (h .number)) ≡ settle day k call
   unfolding declares workBy
   settled-interrupt q =
-      settled-call (rw q) (sym (refusal-by call (runner k) (taskAt (k .tasks) (placeOf (sortOf (h .mark)) h (runner k))) (k .locks) (k .now) (h .mark) AnInterrupt q)) (sym q)
+      settled-call (rw q) (sym (refusal-by call (runner k) (taskAt (k .tasks) (placeOf (sortOf (h .mark)) h (runner k))) (k .locks) (k .now) (nextEvent k) (h .mark) AnInterrupt q)) (sym q)
 
-  pub settled-tick : sortOf (h .mark) ≡ EveryTask → orRefuse k (stateRefusal TI k call) (finish k (tick k)) ≡ settle day k call
+  pub settled-time : sortOf (h .mark) ≡ EveryTask
+      → orRefuse k (stateRefusal (h .mark) k call) (finish k (arrive k (arrival (h .mark) k))) ≡ settle day k call
   unfolding settle carryOut declares workBy
-  settled-tick q =
-      let m = is-mark (h .mark) TI (tick-mark (h .mark) q) in
-      let ticks : finish k (tick k) ≡ carryOut day k call = rw q in
-      ap (λ (x : Mark). orRefuse k (stateRefusal x k call) (finish k (tick k))) (sym m) ∙ ap (orRefuse k (stateRefusal (h .mark) k call)) ticks
+  settled-time q =
+      let out : finish k (arrive k (arrival (h .mark) k)) ≡ carryOut day k call = rw q in
+      ap (orRefuse k (stateRefusal (h .mark) k call)) out
 
 -- ---- the step
 

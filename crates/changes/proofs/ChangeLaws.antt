@@ -43,7 +43,10 @@ use Rattle.machine.specs.declared.Sets.{Sets}
 use Rattle.machine.proofs.SetLaws.{members-each, each-same}
 use Rattle.sets.specs.Puts.{putIf, putMarks}
 use Rattle.survey.specs.Looks.{waitsOk}
-use Rattle.serving.specs.Ends.{asBefore, workHere}
+use Rattle.serving.specs.Ends.{asBefore, workHere, nextFiled}
+use Rattle.serving.proofs.EndLaws.{next-of-work}
+use Rattle.machine.specs.NextEvent.{nextAmong}
+use Rattle.calendar.specs.declared.Moment.{Moment}
 use Rattle.serving.proofs.AskLaws.{wait-begins}
 use Rattle.serving.proofs.TurnCases.{wait-stays, wait-at, waits-changed, sound}
 use Rattle.refusals.specs.Inner.{aboutOne, ticking}
@@ -107,7 +110,7 @@ module _ (day : ℕ) (k : State) (h : Head) (l : List ℕ) (v : valid day k ≡ 
   does s i = changeOf (k .counts .tasks) (k .tasks) day s call (k .clock) (k .now) (taskAt (k .tasks) i) (k .locks)
 
   pub returnable : {s : Sort} → s ≡ sortOf (h .mark) → Returnable s (k .locks) call
-  returnable q = rw q (unrefused (h .mark) call (runner k) _ (k .locks) (k .now) z .returnable)
+  returnable q = rw q (unrefused (h .mark) call (runner k) _ (k .locks) (k .now) _ z .returnable)
 
   -- ---- the waits stay in order
 
@@ -167,7 +170,7 @@ module _ (day : ℕ) (k : State) (h : Head) (l : List ℕ) (v : valid day k ≡ 
     pub change-waits : waitsOk (withChange k i d) ≡ true
     change-waits =
         waits-changed k (sound day k v .waits) i (d .task) (d .locks)
-        (rw done (waits-kept s (sym q) a (rw q (unrefused (h .mark) call (runner k) _ (k .locks) (k .now) z .runs))))
+        (rw done (waits-kept s (sym q) a (rw q (unrefused (h .mark) call (runner k) _ (k .locks) (k .now) _ z .runs))))
 
     finish-change : finish (asBefore (k .tasks) (withChange k i d)) (workHere (withChange k i d) (onlyIn i (d .marks))) ≡ finish k (changed k i d)
     unfolding finish changed
@@ -178,8 +181,10 @@ module _ (day : ℕ) (k : State) (h : Head) (l : List ℕ) (v : valid day k ≡ 
     called = ap declaring (sym q) ∙ undeclaring s a
 
     pub change-done : {e : Sets} → e ≡ noSets → {s : Sets} → s ≡ putMarks i (d .marks) e
-        → finish (asBefore (k .tasks) (withChange k i d)) (workHere (withChange k i d) s) ≡ settle day k call
-    change-done n m =
-        ap (λ x. finish (asBefore (k .tasks) (withChange k i d)) (workHere (withChange k i d) x)) (m ∙ ap (putMarks i (d .marks)) n ∙ put-first i (d .marks)) ∙ finish-change
+        → {next : Moment} → next ≡ nextAmong (k .now) (k .counts .tasks) (set (k .tasks) i (d .task))
+        → nextFiled next (finish (asBefore (k .tasks) (withChange k i d)) (workHere (withChange k i d) s)) ≡ settle day k call
+    change-done n m o =
+        next-of-work (asBefore (k .tasks) (withChange k i d)) (workHere (withChange k i d) _) o
+        ∙ ap (λ x. finish (asBefore (k .tasks) (withChange k i d)) (workHere (withChange k i d) x)) (m ∙ ap (putMarks i (d .marks)) n ∙ put-first i (d .marks)) ∙ finish-change
         ∙ ap (λ x. finish k (changed k x d)) e ∙ ap (λ x. finish k (changed k (placeOf s h (runner k)) x)) done
         ∙ ap (finish k) (work-one s a) ∙ settled-call day k h l called z q

@@ -1,18 +1,19 @@
 // The next event. In a scan it goes as a number, 0 for none: what is later than now is not 0.
 ghost use mathlib.Core.Path.{_≡_};
 ghost use Prim.Native.Nat.{_≤_};
-ghost use Rattle.calendar.specs.Moments.{sooner};
+ghost use Rattle.calendar.specs.Moments.{sooner, firstAfter};
 ghost use Rattle.calendar.specs.declared.Moment.{Moment};
 ghost use Rattle.schedule.specs.Coming.{nextOf};
-ghost use Rattle.task.specs.Coming.{delayEnd};
+ghost use Rattle.task.specs.Coming.{delayEnd, pendings};
 ghost use Rattle.machine.specs.State.{mostTasks};
-ghost use Rattle.machine.specs.NextEvent.{nextEvent};
+ghost use Rattle.machine.specs.NextEvent.{nextAmong};
 ghost use Rattle.coming.specs.Next.{momentOf};
 use calendar::Instant;
 use calendar::Moment;
 use machine::State;
 use schedule::Alarm;
 use task::Hold;
+use task::Task;
 
 // The earlier of s and n, where n is later than now.
 fn sooner(s: u64, now: Instant, n: Instant) -> u64
@@ -58,14 +59,24 @@ pub fn moment_of(s: u64) -> Moment
     Moment::At(Instant(s))
 }
 
-// When something next comes to a declared task, or never.
-pub fn next_event(k: State) -> Moment
+// The first that comes to a task after now, 0 for none.
+pub fn soonest(now: Instant, t: Task) -> u64
+    ensures { λ r. ⌜ momentOf r ≡ firstAfter now (pendings t) ⌝ }
+{
+    let hold = t.hold;
+    let schedule = t.schedule;
+    let alarm = schedule.alarm;
+    let s = sooner_due(0, now, t.continuation);
+    sooner_end(sooner_due(s, now, alarm), now, hold)
+}
+
+// The first that comes to a declared task after now, or never.
+pub fn next_event(k: State, now: Instant) -> Moment
     requires { ⌜ k .counts .tasks ≤ mostTasks ⌝ }
-    ensures { λ r. ⌜ r ≡ nextEvent k ⌝ }
+    ensures { λ r. ⌜ r ≡ nextAmong now (k .counts .tasks) (k .tasks) ⌝ }
 {
     let counts = k.counts;
     let n = counts.tasks as usize;
-    let now = k.now;
     let mut soonest = 0;
     for i in 0..n {
         let t = k.tasks[i];

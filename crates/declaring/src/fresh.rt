@@ -3,6 +3,7 @@ ghost use mathlib.Core.Path.{_≡_};
 ghost use Rattle.lock.specs.Locks.{emptyBolt};
 ghost use Rattle.machine.specs.State.{freshTask, nothing};
 use calendar::Instant;
+use calendar::Moment;
 use lock::Bolt;
 use lock::Locks;
 use lock::MOST_LOCKS;
@@ -66,6 +67,7 @@ pub fn fresh() -> State
     };
     let file = OnFile {
         running: Running::Idle,
+        next: Moment::Never,
     };
     State {
         tasks: [task; MOST_TASKS as usize],

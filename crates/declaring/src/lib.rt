@@ -7,8 +7,8 @@ ghost use Prim.Native.Nat.{ℕ, _<_};
 ghost use Rattle.calendar.specs.Limits.{day};
 ghost use Rattle.record.specs.Reading.{callWith};
 ghost use Rattle.machine.specs.Refusals.{formalRefusal};
-ghost use Rattle.machine.specs.Running.{runner};
-ghost use Rattle.machine.specs.State.{mostTasks, mostSemaphores, mostBolts, mostInterrupts, withClock, withRunning};
+ghost use Rattle.machine.specs.NextEvent.{fileOf};
+ghost use Rattle.machine.specs.State.{mostTasks, mostSemaphores, mostBolts, mostInterrupts, withClock, withFile};
 ghost use Rattle.machine.specs.Calls.{addTask, addSemaphore, addBolt, addInterrupt, declaration};
 ghost use Rattle.machine.specs.Step.{declared, refuse};
 use crate::fresh::empty_bolt;
@@ -17,7 +17,6 @@ use layout::Head;
 use layout::Mark;
 use machine::Counts;
 use machine::OnFile;
-use machine::Running;
 use machine::State;
 use machine::Stepped;
 use serving::ends::answered;
@@ -85,28 +84,29 @@ pub(crate) fn set_clock(k: State, t: u32) -> State
     next
 }
 
-// A declaration leaves this kernel: r runs on, and is put on file.
-fn filed(mut k: State, r: Running) -> Stepped
-    ensures { λ s. ⌜ s ≡ refuse (withRunning r k) 0 r ⌝ }
+// A declaration leaves this kernel with what was on file: its task runs on.
+fn filed(mut k: State, file: OnFile) -> Stepped
+    ensures { λ s. ⌜ s ≡ refuse (withFile file k) 0 (file .running) ⌝ }
 {
-    let file = OnFile { running: r };
+    let r = file.running;
     k.file = file;
     answered(k, 0, r)
 }
 
 // An accepted declaration; the answer's sets are empty.
-pub fn declared(k: State, h: Head, r: Running) -> Stepped
-    requires { ⌜ r ≡ runner k ⌝ }
+pub fn declared(k: State, h: Head) -> Stepped
+    requires { ⌜ k .file ≡ fileOf k ⌝ }
     requires { ⌜ ((l : List ℕ) × (formalRefusal day (k .counts) (k .begun) (callWith h l) ≡ 0)) ⌝ }
     ensures { λ s. ⌜ ((l : List ℕ) → s ≡ declared k (declaration (h .mark) (callWith h l) k)) ⌝ }
 {
     let mark = h.mark;
+    let file = k.file;
     match mark {
-        Mark::DT => filed(add_task(k, h.priority), r),
-        Mark::DS => filed(add_semaphore(k, (h.first % 65536) as u16), r),
-        Mark::DB => filed(add_bolt(k), r),
-        Mark::IT => filed(add_interrupt(k), r),
-        Mark::DC => filed(set_clock(k, h.first), r),
-        _ => filed(k, r),
+        Mark::DT => filed(add_task(k, h.priority), file),
+        Mark::DS => filed(add_semaphore(k, (h.first % 65536) as u16), file),
+        Mark::DB => filed(add_bolt(k), file),
+        Mark::IT => filed(add_interrupt(k), file),
+        Mark::DC => filed(set_clock(k, h.first), file),
+        _ => filed(k, file),
     }
 }

@@ -6,7 +6,7 @@ use Rattle.machine.specs.Step.{carry}
 use Rattle.kernel.specs.Reply.{reply}
 use Rattle.kernel.specs.declared.Kernel.{Kernel}
 use Rattle.kernel.specs.declared.Reply.{Reply}
-use Rattle.delivery.specs.Methods.{Method, declare-task, declare-semaphore, declare-bolt, declare-interrupt, declare-clock, activate, terminate, suspend, prevent, continue-task, end, resume, request, release, try-request, reserve, free, enter, leave, trigger, enable, disable, tick}
+use Rattle.delivery.specs.Methods.{Method, declare-task, declare-semaphore, declare-bolt, declare-interrupt, declare-clock, activate, terminate, suspend, prevent, continue-task, end, resume, request, release, try-request, reserve, free, enter, leave, trigger, enable, disable, tick, sleep}
 
 pub method-carries : (a : Kernel) {c : Call} {r : Reply} → Method a c r → r ≡ reply (carry day (a .state) c)
 method-carries a (declare-task p r e) = e
@@ -32,3 +32,4 @@ method-carries a (trigger i r e) = e
 method-carries a (enable i r e) = e
 method-carries a (disable i r e) = e
 method-carries a (tick r e) = e
+method-carries a (sleep r e) = e

@@ -2,7 +2,7 @@
 use mathlib.Core.List.{List}
 use Prim.Native.Nat.{ℕ}
 use Rattle.layout.specs.declared.Call.{Call}
-use Rattle.pearl.specs.Calls.{taskDeclaration, semaphoreDeclaration, boltDeclaration, interruptDeclaration, clockDeclaration, activateCall, terminateCall, suspendCall, preventCall, continueCall, endCall, resumeCall, requestCall, releaseCall, tryCall, reserveCall, freeCall, enterCall, leaveCall, triggerCall, enableCall, disableCall, tickCall}
+use Rattle.pearl.specs.Calls.{taskDeclaration, semaphoreDeclaration, boltDeclaration, interruptDeclaration, clockDeclaration, activateCall, terminateCall, suspendCall, preventCall, continueCall, endCall, resumeCall, requestCall, releaseCall, tryCall, reserveCall, freeCall, enterCall, leaveCall, triggerCall, enableCall, disableCall, tickCall, sleepCall}
 use Rattle.pearl.specs.declared.StartCondition.{StartCondition}
 use Rattle.kernel.specs.declared.Kernel.{Kernel}
 use Rattle.kernel.specs.declared.Reply.{Reply}
@@ -29,6 +29,7 @@ use Rattle.kernel.proofs.Kernel.trigger.Reads as TG
 use Rattle.kernel.proofs.Kernel.enable.Reads as EI
 use Rattle.kernel.proofs.Kernel.disable.Reads as XI
 use Rattle.kernel.proofs.Kernel.tick.Reads as TI
+use Rattle.kernel.proofs.Kernel.sleep.Reads as SL
 
 -- A method of kernel a that stands for a call c has handed back the reply r. A contract is had with the arguments at
 -- entry, the reply, and the arguments at exit.
@@ -56,3 +57,4 @@ pub data Method (a : Kernel) : Call → Reply → Type 0 where
   enable : (i : ℕ) (r : Reply) → EI.Learnt tt (a, (i, tt)) r (a, (i, tt)) → Method a (enableCall i) r
   disable : (i : ℕ) (r : Reply) → XI.Learnt tt (a, (i, tt)) r (a, (i, tt)) → Method a (disableCall i) r
   tick : (r : Reply) → TI.Learnt tt (a, tt) r (a, tt) → Method a tickCall r
+  sleep : (r : Reply) → SL.Learnt tt (a, tt) r (a, tt) → Method a sleepCall r

@@ -1,22 +1,49 @@
-// Hands kernels with this or that task on file to the methods, as a program could, and prints their lines. stdout has
-// the lines that document 02 gives.
+// Hands kernels with this or that task and next event on file to the methods, as a program could, and prints their lines.
+// stdout has the lines that document 02 gives.
 ghost use mathlib.Core.Path.{_≡_};
-ghost use Rattle.machine.specs.State.{withRunning};
+ghost use Rattle.machine.specs.State.{withFile};
+use calendar::Instant;
+use calendar::Moment;
 use kernel::Kernel;
 use machine::OnFile;
 use machine::Running;
 use showing::show;
+use showing::show_number;
 use showing::show_running;
 use showing::start;
 
 // The kernel with another task on file.
 fn filing(kernel: Kernel, running: Running) -> Kernel
-    ensures { λ r. ⌜ r .state ≡ withRunning running (kernel .state) ⌝ }
+    ensures { λ r. ⌜ r .state ≡ withFile (record { running = running; next = kernel .state .file .next }) (kernel .state) ⌝ }
 {
     let mut k = kernel.state;
-    let file = OnFile { running };
+    let old = k.file;
+    let next = old.next;
+    let file = OnFile { running, next };
     k.file = file;
     Kernel { state: k }
+}
+
+// The kernel with another next event on file.
+fn expecting(kernel: Kernel, next: Moment) -> Kernel
+    ensures { λ r. ⌜ r .state ≡ withFile (record { running = kernel .state .file .running; next = next }) (kernel .state) ⌝ }
+{
+    let mut k = kernel.state;
+    let old = k.file;
+    let running = old.running;
+    let file = OnFile { running, next };
+    k.file = file;
+    Kernel { state: k }
+}
+
+// Prints a line with number 0 if this is the next event handed out, and with 1 if it isn't.
+fn show_next(kernel: Kernel, next: Moment) {
+    let handed = kernel.next_event();
+    if handed.is_same(next) {
+        show_number(0);
+    } else {
+        show_number(1);
+    }
 }
 
 // Task 0 runs and 1 is runnable. On file: 1, a number out of range, none, and then 0. The first three are handed out as
@@ -80,9 +107,54 @@ fn declared() {
     show_running(kernel);
 }
 
+// Task 0 starts at 3. On file: none, the ticks before and after it, the present instant, one above 2^42, which is handed
+// out as it is, and then 3. After the sleep nothing is to come: 3, which is now, and 5 are wrong, none is right.
+fn one_comes() {
+    let mut kernel = Kernel::fresh();
+    kernel = show(kernel.declare_task(5));
+    show_next(kernel, Moment::Never);
+    kernel = show(kernel.activate(0, 0, start(2, 3)));
+    show_next(kernel, Moment::At(Instant(3)));
+    kernel = show(expecting(kernel, Moment::Never).tick());
+    kernel = show(expecting(kernel, Moment::At(Instant(2))).sleep());
+    kernel = show(expecting(kernel, Moment::At(Instant(4))).sleep());
+    kernel = show(expecting(kernel, Moment::At(Instant(0))).tick());
+    kernel = show(expecting(kernel, Moment::At(Instant(4398046511105))).tick());
+    show_next(kernel, Moment::At(Instant(4398046511105)));
+    kernel = show(expecting(kernel, Moment::At(Instant(3))).sleep());
+    kernel = show(kernel.sleep());
+    kernel = show(expecting(kernel, Moment::At(Instant(3))).tick());
+    kernel = show(expecting(kernel, Moment::At(Instant(5))).sleep());
+    kernel = show(expecting(kernel, Moment::Never).tick());
+    show_next(kernel, Moment::Never);
+}
+
+// Both wrong are one refusal; a clock that is wrong too goes before it, and no record goes behind it. Undeclared tasks'
+// schedules aren't looked at.
+fn next_in_order() {
+    let bytes = [0; 3];
+    let mut kernel = Kernel::fresh();
+    kernel = show(kernel.declare_task(5));
+    kernel = show(kernel.activate(0, 0, start(0, 0)));
+    kernel = expecting(kernel, Moment::At(Instant(7)));
+    let mut k = kernel.state;
+    k.clock = 86400000;
+    show(Kernel { state: k }.sleep());
+    kernel = show(kernel.step(&bytes));
+    kernel = show(filing(kernel, Running::Idle).sleep());
+    kernel = show(expecting(filing(kernel, Running::Runs(0)), Moment::Never).step(&bytes));
+    kernel = show(kernel.activate(0, 0, start(2, 1)));
+    k = kernel.state;
+    let t = k.tasks[0];
+    k.tasks[1] = t;
+    show(Kernel { state: k }.sleep());
+}
+
 fn main() {
     one_runs();
     after_ends();
     in_order();
     declared();
+    one_comes();
+    next_in_order();
 }

@@ -5,12 +5,14 @@ ghost use Prim.Native.Nat.{_≤_, _<_};
 ghost use Rattle.calendar.specs.Limits.{day, lastInstant};
 ghost use Rattle.task.specs.Turns.{triggerTurn};
 ghost use Rattle.machine.specs.State.{mostTasks, withState};
+ghost use Rattle.machine.specs.NextEvent.{nextEvent};
 ghost use Rattle.machine.specs.Test.{placesOk, valid};
 ghost use Rattle.machine.specs.Work.{everyTurn};
 ghost use Rattle.machine.specs.Calls.{trigger, enable, interruptBy};
 ghost use Rattle.machine.specs.Step.{finish};
 ghost use Rattle.survey.specs.Looks.{waitsOk};
 ghost use Rattle.sets.specs.Standing.{Turned};
+use coming::next_event;
 use layout::Head;
 use layout::Mark;
 use machine::Sets;
@@ -60,6 +62,7 @@ fn trigger_all(mut k: State, interrupt: u8) -> Working
 }
 
 fn triggered(k: State, i: u8) -> Stepped
+    requires { ⌜ k .file .next ≡ nextEvent k ⌝ }
     requires { ⌜ valid day k ≡ true ⌝ }
     requires { ⌜ i < k .counts .interrupts ⌝ }
     ensures { λ s. ⌜ s ≡ finish k (trigger day k i) ⌝ }
@@ -68,13 +71,15 @@ fn triggered(k: State, i: u8) -> Stepped
     if k.enabled[at] {
         let w = trigger_all(k, i);
         let s = w.sets;
-        return finished(w.state, s, w.turned);
+        let next = next_event(w.state, k.now);
+        return finished(w.state, s, w.turned, next);
     }
     done(k)
 }
 
 // ENABLE and DISABLE.
 fn enabled_as(mut k: State, i: usize, b: bool) -> Stepped
+    requires { ⌜ k .file .next ≡ nextEvent k ⌝ }
     requires { ⌜ waitsOk k ≡ true ⌝ }
     requires { ⌜ placesOk (k .counts .tasks) (k .places) ≡ true ⌝ }
     requires { ⌜ i < k .counts .interrupts ⌝ }
@@ -86,6 +91,7 @@ fn enabled_as(mut k: State, i: usize, b: bool) -> Stepped
 
 // TRIGGER, ENABLE and DISABLE.
 pub fn interrupted(k: State, h: Head) -> Stepped
+    requires { ⌜ k .file .next ≡ nextEvent k ⌝ }
     requires { ⌜ valid day k ≡ true ⌝ }
     requires { ⌜ h .number < k .counts .interrupts ⌝ }
     ensures { λ s. ⌜ s ≡ finish k (interruptBy day (h .mark) k (h .number)) ⌝ }

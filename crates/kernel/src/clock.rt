@@ -1,13 +1,14 @@
-// Interrupts and ticks: TRIGGER, ENABLE, DISABLE and one tick of the clock.
+// Interrupts and time: TRIGGER, ENABLE, DISABLE, one tick of the clock, and sleep to the next event.
 ghost use mathlib.Core.Path.{_≡_};
 ghost use Rattle.calendar.specs.Limits.{day};
 ghost use Rattle.machine.specs.Step.{carry};
-ghost use Rattle.pearl.specs.Calls.{triggerCall, enableCall, disableCall, tickCall};
+ghost use Rattle.pearl.specs.Calls.{triggerCall, enableCall, disableCall, tickCall, sleepCall};
 ghost use Rattle.kernel.specs.Reply.{reply};
 use crate::Kernel;
 use crate::Reply;
 use pearl::clock::disable;
 use pearl::clock::enable;
+use pearl::clock::sleep;
 use pearl::clock::tick;
 use pearl::clock::trigger;
 
@@ -34,5 +35,12 @@ impl Kernel {
         ensures { λ r. ⌜ r ≡ reply (carry day (self .state) tickCall) ⌝ }
     {
         self.carry(tick())
+    }
+
+    // To the next event, in one jump.
+    pub fn sleep(self) -> Reply
+        ensures { λ r. ⌜ r ≡ reply (carry day (self .state) sleepCall) ⌝ }
+    {
+        self.carry(sleep())
     }
 }

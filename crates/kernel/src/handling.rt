@@ -6,6 +6,7 @@ ghost use Rattle.machine.specs.Step.{step, carry};
 ghost use Rattle.kernel.specs.Reply.{reply};
 use crate::Kernel;
 use crate::Reply;
+use calendar::Moment;
 use calls::step::step;
 use declaring::fresh::fresh;
 use layout::Call;
@@ -38,6 +39,15 @@ impl Kernel {
         let state = self.state;
         let file = state.file;
         file.running
+    }
+
+    // When something next comes without another call, or never: the moment on file.
+    pub fn next_event(self) -> Moment
+        ensures { λ r. ⌜ r ≡ self .state .file .next ⌝ }
+    {
+        let state = self.state;
+        let file = state.file;
+        file.next
     }
 
     // The machine's step over bytes of any length.

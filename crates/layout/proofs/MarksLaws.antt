@@ -11,7 +11,7 @@ use native.Mathlib.Omega.{arith}
 use borrow.Author.Tests.{ne-eqb, eqb-true}
 use denote.Enum.Declared.{tagOf}
 use Rattle.layout.specs.declared.Mark.{Mark}
-use Rattle.layout.specs.declared.Mark.the-variants.{DT, DS, DB, IT, DC, AC, TE, SU, PR, CO, EN, RE, RQ, RL, TR, RS, FR, ET, LV, TG, EI, XI, TI}
+use Rattle.layout.specs.declared.Mark.the-variants.{DT, DS, DB, IT, DC, AC, TE, SU, PR, CO, EN, RE, RQ, RL, TR, RS, FR, ET, LV, TG, EI, XI, TI, SL}
 use Rattle.layout.specs.declared.Marked.the-variants.{Unknown, Known}
 use Rattle.layout.specs.Marks.{code, is, marks, among, markOf}
 use Rattle.layout.proofs.Tests.{both}
@@ -43,6 +43,7 @@ found TG = (refl, refl)
 found EI = (refl, refl)
 found XI = (refl, refl)
 found TI = (refl, refl)
+found SL = (refl, refl)
 
 -- What bears a mark's letters is that mark.
 pub known : (m : Mark) {n : ℕ} → n ≡ code m → Known m ≡ markOf n

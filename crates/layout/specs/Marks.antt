@@ -4,7 +4,7 @@ use mathlib.Core.List.{List, [], _∷_}
 use Prim.Native.Nat.{ℕ}
 use lib.Dec.{eqb}
 use Rattle.layout.specs.declared.Mark.{Mark}
-use Rattle.layout.specs.declared.Mark.the-variants.{DT, DS, DB, IT, DC, AC, TE, SU, PR, CO, EN, RE, RQ, RL, TR, RS, FR, ET, LV, TG, EI, XI, TI}
+use Rattle.layout.specs.declared.Mark.the-variants.{DT, DS, DB, IT, DC, AC, TE, SU, PR, CO, EN, RE, RQ, RL, TR, RS, FR, ET, LV, TG, EI, XI, TI, SL}
 use Rattle.layout.specs.declared.Marked.{Marked}
 use Rattle.layout.specs.declared.Marked.the-variants.{Unknown, Known}
 use Rattle.layout.specs.declared.Form.{Form}
@@ -35,6 +35,7 @@ code TG = 0x5447
 code EI = 0x4549
 code XI = 0x5849
 code TI = 0x5449
+code SL = 0x534c
 
 abbrev pub is : Mark → Mark → Bool
 is m n = eqb (code m) (code n)
@@ -42,7 +43,7 @@ is m n = eqb (code m) (code n)
 -- Declarations first, then calls.
 abbrev pub marks : List Mark
 marks =
-    DT ∷ DS ∷ DB ∷ IT ∷ DC ∷ AC ∷ TE ∷ SU ∷ PR ∷ CO ∷ EN ∷ RE ∷ RQ ∷ RL ∷ TR ∷ RS ∷ FR ∷ ET ∷ LV ∷ TG ∷ EI ∷ XI ∷ TI ∷ []
+    DT ∷ DS ∷ DB ∷ IT ∷ DC ∷ AC ∷ TE ∷ SU ∷ PR ∷ CO ∷ EN ∷ RE ∷ RQ ∷ RL ∷ TR ∷ RS ∷ FR ∷ ET ∷ LV ∷ TG ∷ EI ∷ XI ∷ TI ∷ SL ∷ []
 
 unfoldable pub among : List Mark → ℕ → Marked
 among [] n = Unknown
@@ -77,3 +78,4 @@ form TG = Number
 form EI = Number
 form XI = Number
 form TI = Bare
+form SL = Bare

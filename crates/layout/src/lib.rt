@@ -29,6 +29,7 @@ pub enum Mark {
     EI,
     XI,
     TI,
+    SL,
 }
 
 pub enum Marked {

@@ -33,6 +33,7 @@ pub fn code_of(mark: Mark) -> u16
         Mark::EI => 0x4549,
         Mark::XI => 0x5849,
         Mark::TI => 0x5449,
+        Mark::SL => 0x534c,
     }
 }
 
@@ -64,6 +65,7 @@ pub fn mark_of(letters: u16) -> Marked
         0x4549 => Marked::Known(Mark::EI),
         0x5849 => Marked::Known(Mark::XI),
         0x5449 => Marked::Known(Mark::TI),
+        0x534c => Marked::Known(Mark::SL),
         _ => Marked::Unknown,
     }
 }
@@ -74,7 +76,7 @@ pub fn form_of(mark: Mark) -> Form
     match mark {
         Mark::DT => Form::DeclaredPriority,
         Mark::DS => Form::Preset,
-        Mark::DB | Mark::IT | Mark::EN | Mark::TI => Form::Bare,
+        Mark::DB | Mark::IT | Mark::EN | Mark::TI | Mark::SL => Form::Bare,
         Mark::DC => Form::TimeOfDay,
         Mark::AC => Form::Activation,
         Mark::TE | Mark::SU | Mark::PR | Mark::TG | Mark::EI | Mark::XI => Form::Number,

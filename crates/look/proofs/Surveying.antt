@@ -24,7 +24,8 @@ use Rattle.urgency.specs.declared.scan.Lead.{Lead}
 use Rattle.urgency.proofs.LeadLaws.{Led, canRun, led-none, led-more, led-passed}
 use Rattle.survey.specs.Looks.{atEase, unfit, surveyed}
 use Rattle.coming.specs.Next.{momentOf}
-use Rattle.coming.proofs.NextLaws.{nextAmong, among-none, among-more, among-all}
+use Rattle.machine.specs.NextEvent.{nextAmong}
+use Rattle.coming.proofs.NextLaws.{among-none, among-more}
 use Rattle.survey.proofs.TaskFit.{eased-runs, busy-rests}
 use Rattle.survey.proofs.TestLaws.{fitAt, Upto, upto-none, upto-passes}
 use Rattle.order.specs.Seen.{noneSeen, withPlace, seenBy}
@@ -34,7 +35,7 @@ use Rattle.order.specs.declared.seen.Seen.{Seen}
 -- that can run.
 pub record Looked (day : ℕ) (k : State) (i soonest : ℕ) (seen : Seen) (lead : Lead) : Type 0 where
   pub tasks : Upto (fitAt day k) (k .counts .tasks) i
-  pub comings : momentOf soonest ≡ nextAmong k i
+  pub comings : momentOf soonest ≡ nextAmong (k .now) i (k .tasks)
   pub places : seen ≡ seenBy i (k .places)
   pub leads : Led i (canRun (k .tasks)) (urgency (k .places) (k .tasks)) lead
 
@@ -59,7 +60,7 @@ module _ (ps : List ℕ) (ts : List Task) (i : ℕ) {lead : Lead} (h : Led i (ca
 module _ (day : ℕ) (k : State) where
   pub looked-none : {seen : Seen} {lead : Lead} → seen ≡ noneSeen → lead ≡ noLead → Looked day k 0 0 seen lead
   unfolding seenBy
-  looked-none e f = record { tasks = upto-none _ _; comings = among-none k; places = e; leads = led-none _ _ f }
+  looked-none e f = record { tasks = upto-none _ _; comings = among-none (k .now) (k .tasks); places = e; leads = led-none _ _ f }
 
   module _ {i soonest : ℕ} {seen : Seen} {lead : Lead} (p : Looked day k i soonest seen lead) where
     pub looked-next :
@@ -72,7 +73,7 @@ module _ (day : ℕ) (k : State) where
     looked-next less next fits c s a =
         record {
           tasks = upto-passes (p .tasks) less fits;
-          comings = among-more k i soonest next (p .comings) c;
+          comings = among-more (k .now) (k .tasks) i soonest next (p .comings) c;
           places = rw (add-one, ← p .places) s;
           leads = a;
         }
@@ -82,7 +83,7 @@ module _ (day : ℕ) (k : State) where
       last = le-antisymm (p .tasks .within) end
 
       pub looked-event : momentOf soonest ≡ nextEvent k
-      looked-event = p .comings ∙ rw last (among-all k)
+      looked-event = p .comings ∙ rw last
 
       pub looked-places : seen ≡ seenBy (k .counts .tasks) (k .places)
       looked-places = p .places ∙ rw last

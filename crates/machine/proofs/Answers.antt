@@ -1,7 +1,7 @@
 -- The running task of every answer is that of the kernel handed back.
 use mathlib.Core.Path.{_≡_, refl, sym}
 use mathlib.Core.Bool.{true, false}
-use mathlib.Core.List.{List}
+use mathlib.Core.List.{List, _++_}
 use Prim.Native.Nat.{ℕ, _≤_, _<_}
 use native.Mathlib.Numerals.{add-one}
 use native.Mathlib.Omega.{arith}
@@ -11,13 +11,18 @@ use lib.Seq.{getD-set-same, getD-set-other, set-out}
 use borrow.Author.Tests.{ltb-true, ltb-false}
 use Rattle.layout.specs.declared.Mark.{Mark}
 use Rattle.layout.specs.declared.Call.{Call}
+use Rattle.calendar.specs.Moments.{firstAfter}
+use Rattle.calendar.specs.declared.Instant.{Instant}
+use Rattle.calendar.specs.declared.Moment.{Moment}
 use Rattle.lock.proofs.Bools.{byBool, contra, byEq}
+use Rattle.task.specs.Coming.{pendings}
 use Rattle.task.specs.State.{noTask, runnable}
 use Rattle.task.specs.declared.Task.{Task}
 use Rattle.machine.specs.declared.State.{State}
 use Rattle.machine.specs.declared.Stepped.{Stepped}
 use Rattle.machine.specs.State.{mostTasks, taskAt, freshTask, placeAt}
 use Rattle.machine.specs.Running.{urgency, mostUrgent, runningOf, runner, mostPlaces}
+use Rattle.machine.specs.NextEvent.{allPending, nextAmong, nextEvent, fileOf}
 use Rattle.machine.specs.Test.{valid, kernelRefusal}
 use Rattle.machine.specs.Refusals.{roomFor}
 use Rattle.machine.specs.Calls.{addTask, addSemaphore, addBolt, addInterrupt, declaration}
@@ -25,6 +30,7 @@ use Rattle.machine.specs.Work.{Work}
 use Rattle.machine.specs.Step.{refuse, finish, declared, carryOut, step}
 use Rattle.machine.specs.Promises.{AnswersRunner, AnswersFirst, AreBytes}
 use Rattle.machine.proofs.Urgency.{runner-first, scan-same}
+use Rattle.machine.proofs.NextEvent.{pending-same}
 use Rattle.machine.proofs.Passed.{passed, room-task, tested, parts}
 use Rattle.machine.proofs.Cases.{out-cases, declaration-cases, step-cases}
 use Rattle.machine.proofs.Filing.{taken-valid, taken-filed}
@@ -44,6 +50,26 @@ runner-added k p =
     rw (add-one, fresh-rests (k .tasks) n p)
     (scan-same n _ _ _ _ (λ i l. rw (getD-set-other (k .tasks) n i (freshTask p) noTask (λ q. omega arith)))
     (λ i l. rw (getD-set-other (k .tasks) n i (freshTask p) noTask (λ q. omega arith), getD-set-other (k .places) n i n 0 (λ q. omega arith))))
+
+-- Nothing pends for a task that was just declared.
+fresh-pends : (x : Instant) (ts : List Task) (n p : ℕ) → (ms : List Moment) → firstAfter x (pendings (taskAt (set ts n (freshTask p)) n) ++ ms) ≡ firstAfter x ms
+unfolding freshTask firstAfter
+fresh-pends x ts n p ms =
+    byBool (ltb n (length ts)) (λ e. rw (getD-set-same ts n _ noTask (ltb-true n (length ts) e)))
+    (λ e. let l = ltb-false n (length ts) e in rw (set-out ts n _ l, List·getD-eq-default ts noTask l))
+
+next-added : (k : State) (p : ℕ) → nextEvent (addTask p k) ≡ nextEvent k
+unfolding addTask nextAmong allPending
+next-added k p =
+    let n = k .counts .tasks in
+    rw (
+      add-one,
+      fresh-pends (k .now) (k .tasks) n p (allPending n (set (k .tasks) n (freshTask p))),
+      pending-same (set (k .tasks) n (freshTask p)) (k .tasks) n (λ i l. getD-set-other (k .tasks) n i (freshTask p) noTask (λ q. omega arith)),
+    )
+
+pub file-added : (k : State) (p : ℕ) → fileOf (addTask p k) ≡ fileOf k
+file-added k p = let r = runner-added k p in let n = next-added k p in λ i. record { running = r i; next = n i }
 
 -- An answer's running task, and the places.
 record Right (s : Stepped) : Type 0 where

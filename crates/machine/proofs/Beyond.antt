@@ -19,9 +19,10 @@ use Rattle.task.specs.State.{noTask}
 use Rattle.task.specs.declared.Task.{Task}
 use Rattle.machine.specs.declared.Counts.{Counts}
 use Rattle.machine.specs.declared.State.{State}
-use Rattle.machine.specs.declared.Running.{Running}
-use Rattle.machine.specs.State.{mostTasks, mostSemaphores, mostBolts, mostInterrupts, freshTask, withState, withClock, withPlaces, withRunning}
+use Rattle.machine.specs.declared.OnFile.{OnFile}
+use Rattle.machine.specs.State.{mostTasks, mostSemaphores, mostBolts, mostInterrupts, freshTask, withState, withClock, withPlaces, withFile}
 use Rattle.machine.specs.Running.{runner}
+use Rattle.machine.specs.NextEvent.{fileOf}
 use Rattle.machine.specs.Sorts.{sortOf, declares}
 use Rattle.machine.specs.Work.{Work}
 use Rattle.machine.specs.Serving.{Served, serve}
@@ -37,7 +38,7 @@ use Rattle.machine.specs.Beyond.{Agree, Match, StepsAgree, LogsAgree}
 use Rattle.machine.proofs.Filing.{taken-valid}
 use Rattle.machine.proofs.Passed.{refusalOf, unrefused, Passed, passed, Fits, Tested, tested, room-task, room-semaphore, room-bolt, room-interrupt}
 use Rattle.machine.proofs.Cases.{opened-cases, carried-by, stepOpened, read-opened}
-use Rattle.machine.proofs.Looks.{running-same, runner-same, kernel-same, refusal-same}
+use Rattle.machine.proofs.Looks.{running-same, next-among, runner-same, next-same, kernel-same, refusal-same}
 use Rattle.machine.proofs.Pairs.{Pair, serve-pair}
 use Rattle.machine.proofs.WorkPairs.{WorkPair, work-pair}
 use Rattle.machine.specs.Places.{event, moved}
@@ -64,15 +65,15 @@ alike-agree k ts ps r is a s b c =
       tables′ = record { tasks = a .long′; places = s .long′; semaphores = b .semaphores .long′; bolts = b .bolts .long′; enabled = c .long′ };
     }
 
--- With the same task on file.
-refiled-agree : (d d′ : State) → Agree d d′ → (x y : Running) → x ≡ y → Agree (withRunning x d) (withRunning y d′)
+-- With the same on file.
+refiled-agree : (d d′ : State) → Agree d d′ → (x y : OnFile) → x ≡ y → Agree (withFile x d) (withFile y d′)
 refiled-agree d d′ b x y e =
     record {
       counts = b .counts;
       clock = b .clock;
       now = b .now;
       begun = b .begun;
-      file = ap (λ (r : Running). record { running = r }) e;
+      file = e;
       tasks = b .tasks;
       places = b .places;
       semaphores = b .semaphores;
@@ -82,7 +83,7 @@ refiled-agree d d′ b x y e =
       tables′ = tables-refiled d′ (b .tables′) y;
     }
   where
-    tables-refiled : (d : State) → Tables d → (x : Running) → Tables (withRunning x d)
+    tables-refiled : (d : State) → Tables d → (x : OnFile) → Tables (withFile x d)
     tables-refiled d t x = record { tasks = t .tasks; places = t .places; semaphores = t .semaphores; bolts = t .bolts; enabled = t .enabled }
 
 abbrev served : Work → Served
@@ -117,13 +118,16 @@ module _ (day : ℕ) (k : State) (ts : List Task) (ps : List ℕ) (r : Locks) (i
   same-runner : runner k ≡ runner k′
   same-runner = runner-same k ts ps r is (a .tasks) (a .places) sees
 
+  same-file : fileOf k ≡ fileOf k′
+  same-file = let e = next-same k ts ps r is (a .tasks) (a .places) sees in λ i. record { running = same-runner i; next = e i }
+
   refuse-match : (m : ℕ) → Match (refuse k m (runner k)) (refuse k′ m (runner k′))
   unfolding refuse
   refuse-match m = record { answer = rw same-runner; state = a }
 
   declared-match : (d d′ : State) → Agree d d′ → Match (declared k d) (declared k′ d′)
   unfolding declared
-  declared-match d d′ b = record { answer = rw same-runner; state = refiled-agree d d′ b (runner k) (runner k′) same-runner }
+  declared-match d d′ b = record { answer = rw same-runner; state = refiled-agree d d′ b (fileOf k) (fileOf k′) same-file }
 
   module _ (f : Fits n) where
     finish-match : (w w′ : Work) → WorkPair n w w′ → Match (finish k w) (finish k′ w′)
@@ -136,13 +140,14 @@ module _ (day : ℕ) (k : State) (ts : List Task) (ps : List ℕ) (r : Locks) (i
         let o′ = event ts (z′ .tasks) (w′ .sets .started) in
         let m = moved-like mostTasks (n .tasks) (f .tasks) o o′ (k .places) ps places (n .tasks) (omega arith) (λ i l. rw (a .tasks i l, p .tasks .below i l, q .sets)) in
         let e = running-same n (z .tasks) (z′ .tasks) (p .tasks .below) (moved (n .tasks) o (k .places)) (moved (n .tasks) o′ ps) (m .below) in
+        let x = next-among n (z .tasks) (z′ .tasks) (p .tasks .below) (w .now) in
         record {
           answer = λ i. record {
             number = 0;
             running = e i;
             sets = withGranted (g i) (q .sets i);
           };
-          state = rw (← q .now, ← e) (alike-agree (finish k w .state) _ _ _ _ (p .tasks) m (p .locks) (q .enabled));
+          state = rw (← q .now, ← e, ← x) (alike-agree (finish k w .state) _ _ _ _ (p .tasks) m (p .locks) (q .enabled));
         }
 
     -- ---- declarations
@@ -188,7 +193,7 @@ module _ (day : ℕ) (k : State) (ts : List Task) (ps : List ℕ) (r : Locks) (i
       out-match : (c : Call) → Passed day (c .head .mark) k c → Match (carryOut day k c) (carryOut day k′ c)
       unfolding carryOut
       out-match c p =
-          let u = unrefused (c .head .mark) c (runner k) _ (k .locks) (k .now) (p .state) in
+          let u = unrefused (c .head .mark) c (runner k) _ (k .locks) (k .now) _ (p .state) in
           byBool (declares (c .head .mark))
           (λ e. rw e (declared-match _ _ (declaration-match (c .head .mark) c (p .formal .room))))
           (λ e. rw e (finish-match _ _ (work-pair k ts ps r is f pair (a .places) ints day c (sortOf (c .head .mark)) (p .formal .known) (u .runs))))

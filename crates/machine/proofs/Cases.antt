@@ -1,4 +1,4 @@
--- Every step is refusal 1 or 16, a refusal 2 to 15, or what an accepted declaration or call does.
+-- Every step is refusal 1 or 16, a refusal 2 to 15 or 17, or what an accepted declaration or call does.
 use mathlib.Core.Path.{_≡_, refl}
 use mathlib.Core.Logic.{_≢_}
 use mathlib.Core.Bool.{Bool, true, false, not, _&&_, _||_}
@@ -8,7 +8,9 @@ use native.Mathlib.Omega.{arith}
 use lib.ListN.{length}
 use lib.Dec.{ltb, eqb}
 use Rattle.calendar.specs.Limits.{lastInstant}
+use Rattle.calendar.specs.Moments.{comesBy}
 use Rattle.calendar.specs.declared.Instant.{Instant}
+use Rattle.calendar.specs.declared.Moment.{Moment}
 use Rattle.layout.specs.Marks.{is, markOf, form}
 use Rattle.layout.specs.Fields.{recordLength, letters, callOf}
 use Rattle.layout.proofs.MarksLaws.{is-mark}
@@ -17,7 +19,7 @@ use Rattle.record.specs.Reading.{refused, accepted, callWith, withMark, opened,
 use Rattle.layout.specs.declared.Marked.{Marked}
 use Rattle.layout.specs.declared.Marked.the-variants.{Unknown, Known}
 use Rattle.layout.specs.declared.Mark.{Mark}
-use Rattle.layout.specs.declared.Mark.the-variants.{DT, DS, DB, IT, DC, AC, TE, SU, TI}
+use Rattle.layout.specs.declared.Mark.the-variants.{DT, DS, DB, IT, DC, AC, TE, SU, TI, SL}
 use Rattle.record.specs.declared.Read.{Read}
 use Rattle.record.specs.declared.Read.the-variants.{Refused, Accepted}
 use Rattle.record.specs.declared.Reading.{Reading}
@@ -35,6 +37,7 @@ use Rattle.machine.specs.declared.Running.the-variants.{Idle}
 use Rattle.machine.specs.declared.Stepped.{Stepped}
 use Rattle.machine.specs.State.{withClock}
 use Rattle.machine.specs.Running.{runner, someone}
+use Rattle.machine.specs.NextEvent.{fileOf}
 use Rattle.machine.specs.Test.{valid, filed, kernelRefusal}
 use Rattle.machine.specs.Sorts.{sortOf, declares, needsRunner, givenKind}
 use Rattle.machine.specs.Refusals.{declaredIn, roomFor, formalRefusal, admittedIf, admitted, unreturnable, isContinue, refusalBy, stateRefusal}
@@ -56,10 +59,11 @@ opened-cases s P f g = byBool (eqb (length s) recordLength) (λ e. rw e (go (mar
 
 -- ---- numbers
 
--- A number of a refusal 2 to 15, or 0.
+-- A number of a refusal 2 to 15 or 17, or 0.
 pub record Late (n : ℕ) : Type 0 where
-  pub most : n ≤ 15
+  pub most : n ≤ 17
   pub no1 : n ≢ 1
+  pub no16 : n ≢ 16
 
 late-unless : (b : Bool) (n rest : ℕ) → Late n → Late rest → Late (unless b n rest)
 late-unless true n rest p q = q
@@ -91,9 +95,9 @@ late-unreturnable Request = omega arith
 late-unreturnable Reserve = omega arith
 late-unreturnable Enter = omega arith
 
-late-state : (m : Mark) (c : Call) (r : Running) (t : Task) (l : Locks) (n : Instant) → Late (refusalBy m c r t l n)
+late-state : (m : Mark) (c : Call) (r : Running) (t : Task) (l : Locks) (n : Instant) (e : Moment) → Late (refusalBy m c r t l n e)
 unfolding refusalBy
-late-state m c r t l n =
+late-state m c r t l n e =
     let w = givenKind (sortOf m) in
     late-unless (not (needsRunner (sortOf m)) || someone r) 8 _ (omega arith)
     (late-unless (not (is m AC && eqb (c .head .kind) 0) || not (t .alive)) 9 _ (omega arith)
@@ -101,11 +105,12 @@ late-state m c r t l n =
     (late-unless (not (is m SU) || not (suspended (t .hold))) 11 _ (omega arith)
     (late-unless (not (isContinue m (c .head)) || not (unheld (t .hold))) 12 _ (omega arith)
     (late-unless (not (waiting w) || every (taken w l) (named c)) (unreturnable w) _ (late-unreturnable w)
-    (late-last (not (is m TI) || ltb (n .0) lastInstant) 15 (omega arith)))))))
+    (late-unless (not (is m TI) || ltb (n .0) lastInstant) 15 _ (omega arith)
+    (late-last (not (is m SL) || comesBy lastInstant e) 17 (omega arith))))))))
 
 pub late-refusal : (day : ℕ) (k : State) (c : Call) → Late (refusalOf day k c)
 unfolding refusalOf
-late-refusal day k c = late-before _ _ (late-formal day k c) (late-state (c .head .mark) c _ _ _ _)
+late-refusal day k c = late-before _ _ (late-formal day k c) (late-state (c .head .mark) c _ _ _ _ _)
 
 -- ---- the step
 
@@ -169,7 +174,7 @@ step-on day k s e = rw e (read-opened day k s)
 
 -- A kernel is refused with 1, with 16, or with neither.
 pub kernel-cases : (day : ℕ) (k : State) (P : ℕ → Type 0)
-    → (valid day k ≡ false → P 1) → (valid day k ≡ true → k .file .running ≢ runner k → P 16) → (kernelRefusal day k ≡ 0 → P 0)
+    → (valid day k ≡ false → P 1) → (valid day k ≡ true → k .file ≢ fileOf k → P 16) → (kernelRefusal day k ≡ 0 → P 0)
     → P (kernelRefusal day k)
 unfolding kernelRefusal
 kernel-cases day k P failed misfiled taken =
@@ -181,15 +186,15 @@ kernel-cases day k P failed misfiled taken =
 
 module _ (day : ℕ) (k : State) (P : Stepped → Type 0)
     (failed : valid day k ≡ false → P (refuse k 1 Idle))
-    (misfiled : valid day k ≡ true → k .file .running ≢ runner k → P (refuse k 16 Idle))
-    (turnedAway : kernelRefusal day k ≡ 0 → (n : ℕ) → 2 ≤ n → n ≤ 15 → P (refuse k n (runner k)))
+    (misfiled : valid day k ≡ true → k .file ≢ fileOf k → P (refuse k 16 Idle))
+    (turnedAway : kernelRefusal day k ≡ 0 → (n : ℕ) → 2 ≤ n → Late n → P (refuse k n (runner k)))
     (done : kernelRefusal day k ≡ 0 → (c : Call) → refusalOf day k c ≡ 0 → P (carryOut day k c)) where
   on-cases : kernelRefusal day k ≡ 0 → (c : Call) → P (carryOn day k c)
   on-cases v c = rw (carried-by day k c) (go (refusalOf day k c) refl)
     where
       go : (n : ℕ) → refusalOf day k c ≡ n → P (orRefuse k n (carryOut day k c))
       go zero e = done v c e
-      go (suc n) e = let h : Late (suc n) = rw e at (late-refusal day k c) in turnedAway v (suc n) (omega arith) (omega arith)
+      go (suc n) e = let h : Late (suc n) = rw e at (late-refusal day k c) in turnedAway v (suc n) (omega arith) h
 
   pub carry-cases : (c : Call) → P (carry day k c)
   unfolding carry

@@ -33,7 +33,7 @@ use Rattle.machine.specs.Calls.{addTask, addSemaphore, addBolt, addInter
 use Rattle.machine.proofs.Places.{added-apart}
 use Rattle.machine.proofs.Passed.{Passed, Fits, room-task, room-semaphore, room-bolt, room-interrupt}
 use Rattle.machine.proofs.Facts.{TaskOk, Bounded, bounded-of, StateOk}
-use Rattle.machine.proofs.Answers.{runner-added}
+use Rattle.machine.proofs.Answers.{file-added}
 use Rattle.machine.proofs.Looks.{count-below}
 use Rattle.machine.proofs.Schedules.{schedule-more, continuation-more}
 
@@ -145,7 +145,7 @@ module _ (day : ℕ) (k : State) (h : StateOk day k) (c : Call) where
         stuck = λ i l. byEq i n (λ z. rw (z, at-new, fresh-unwaiting q))
             (λ z. stuck-stays day k h (n + 1) (set (k .tasks) n (freshTask q)) (k .locks) i (getD-set-other (k .tasks) n i (freshTask q) noTask z) (λ w y o. refl)
             (λ u y. unopposed-more n (k .tasks) _ u y (λ j o. getD-set-other (k .tasks) n j (freshTask q) noTask (λ z. omega arith)) (rw (at-new) (fresh-unwaiting q))) (omega arith));
-        filed-ok = h .filed-ok ∙ sym (runner-added k q);
+        filed-ok = h .filed-ok ∙ sym (file-added k q);
       }
 
   -- The tasks stay, and so do the locks that were declared before.

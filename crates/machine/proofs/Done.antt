@@ -1,6 +1,6 @@
 -- What each accepted call does, in the few shapes that there are.
 use mathlib.Core.Path.{_≡_, refl, sym, ap, _∙_}
-use mathlib.Core.Bool.{Bool, true, false, not, _&&_, _||_, or-true}
+use mathlib.Core.Bool.{Bool, true, false, not, _&&_, _||_, or-true, or-false}
 use mathlib.Core.List.{List}
 use Prim.Native.Nat.{ℕ, _^_, _≤_, _<_}
 use native.Mathlib.Omega.{arith}
@@ -9,11 +9,12 @@ use lib.ListN.{length, set, length-set}
 use borrow.Author.Tests.{ltb-true, not-true}
 use Rattle.calendar.specs.Limits.{lastInstant}
 use Rattle.calendar.specs.Times.{duration, plus}
+use Rattle.calendar.specs.Moments.{comesBy}
 use Rattle.calendar.specs.declared.Instant.{Instant}
 use Rattle.layout.specs.Marks.{is, form}
 use Rattle.record.specs.Refusals.{uses, cleanNames, cleanStart, ranged, startFormed, formedAs, named, timed}
 use Rattle.layout.specs.declared.Mark.{Mark}
-use Rattle.layout.specs.declared.Mark.the-variants.{AC, TE, SU, PR, CO, RE, TG, EI, TI}
+use Rattle.layout.specs.declared.Mark.the-variants.{AC, TE, SU, PR, CO, RE, TG, EI, TI, SL}
 use Rattle.layout.specs.declared.Form.{Form}
 use Rattle.layout.specs.declared.Form.the-variants.{Activation, Continuation, Resumption}
 use Rattle.layout.proofs.MarksLaws.{is-mark}
@@ -37,12 +38,14 @@ use Rattle.machine.specs.Granting.{couldBeGranted}
 use Rattle.machine.specs.Sorts.{sortOf, declaring, declares, askedKind, staying, givenKind, naming, runnerAt}
 use Rattle.machine.specs.Work.{Work, byTurn, changed, everyTurn}
 use Rattle.machine.specs.Refusals.{startDeclared, declaredBy, isContinue}
-use Rattle.machine.specs.Calls.{namedTurn, runnerTurn, asks, changeOf, trigger, interruptBy, tick, workBy, workOf}
+use Rattle.machine.specs.NextEvent.{nextEvent}
+use Rattle.machine.specs.Calls.{namedTurn, runnerTurn, asks, changeOf, trigger, interruptBy, arrive, arrival, workBy, workOf}
 use Rattle.machine.specs.Invariants.{IsDay}
 use Rattle.machine.proofs.Below.{mostUrgent-at}
 use Rattle.machine.proofs.Facts.{Listed, TaskOk, StateOk}
 use Rattle.machine.proofs.Turns.{Good, good-end, good-prevent, good-suspend, good-tick, good-trigger, good-activate, good-go-on, good-resume-by}
 use Rattle.machine.proofs.Passed.{Formal, formal-as, Passed, unrefused}
+use Rattle.machine.proofs.NextEvent.{instant-by}
 use Rattle.machine.proofs.Sorts.{listing, other-mark, asked-waits, given-waits, continue-mark, tick-mark, list-mark, list-shape}
 use Rattle.machine.proofs.Works.{oneTurn, onlyLocks, locks-alone, enabled-alone}
 use Rattle.machine.proofs.Granting.{could-free}
@@ -68,6 +71,16 @@ plain p = record { asks = Nothing; stays = true; gives = Nothing; prevents = p }
 
 abbrev pub giving : Wait → Role
 giving w = record { asks = Nothing; stays = true; gives = w; prevents = false }
+
+-- TI and SL arrive in time.
+pub in-time : (k : State) (m : Mark) → sortOf m ≡ EveryTask → (not (is m TI) || ltb (k .now .0) lastInstant) ≡ true
+    → (not (is m SL) || comesBy lastInstant (nextEvent k)) ≡ true → arrival m k .0 ≤ lastInstant
+unfolding arrival
+in-time k m q goes wakes =
+    byBool (is m SL) (λ e. rw e (instant-by lastInstant (k .now) (nextEvent k) (or-then (is m SL) _ wakes e)))
+    (λ e. let t : is m TI ≡ true = rw (e, or-false) at (tick-mark m q) in
+    let l = ltb-true (k .now .0) lastInstant (or-then (is m TI) _ goes t) in
+    rw e (omega arith))
 
 module _ (day : ℕ) (k : State) (c : Call) where
   abbrev pub Lists : Wait → Type 0
@@ -145,7 +158,7 @@ module _ (day : ℕ) (isDay : IsDay day) (k : State) (h : StateOk day k) (c : Ca
   does-named p q =
       let a = both (ltb (c .head .number) (k .counts .tasks)) (startDeclared (k .counts) (c .head)) (rw q at (p .formal .known)) in
       let l = ltb-true _ _ (a .0) in
-      let u = unrefused m c (runner k) _ (k .locks) (k .now) (p .state) in
+      let u = unrefused m c (runner k) _ (k .locks) (k .now) _ (p .state) in
       turned (is m PR) (c .head .number) _ l (λ e. refl)
       (good-named (taskAt (k .tasks) (c .head .number)) (h .tasks-ok (c .head .number) l) (p .formal) (a .1) (rw q at (u .lives)) q)
 
@@ -163,7 +176,7 @@ module _ (day : ℕ) (isDay : IsDay day) (k : State) (h : StateOk day k) (c : Ca
 
   does-runner : Passed day m k c → sortOf m ≡ TheRunner → Does (roleOf TheRunner false) (workBy day TheRunner k c)
   unfolding workBy changeOf declaredBy
-  does-runner p q = go (runner k) refl (rw q at (unrefused m c (runner k) _ (k .locks) (k .now) (p .state) .runs))
+  does-runner p q = go (runner k) refl (rw q at (unrefused m c (runner k) _ (k .locks) (k .now) _ (p .state) .runs))
     where
       go : (r : Running) → runner k ≡ r → someone r ≡ true
           → Does (plain false) (changed k (runnerAt r) (byTurn (k .locks) (runnerTurn day (k .clock) (k .now) m (c .head) (taskAt (k .tasks) (runnerAt r)))))
@@ -181,7 +194,7 @@ module _ (day : ℕ) (isDay : IsDay day) (k : State) (h : StateOk day k) (c : Ca
 
   does-ask : (w : Wait) (s : Bool) → waiting w ≡ true → Passed day m k c → sortOf m ≡ ListAsked w s → Does (roleOf (ListAsked w s) false) (workBy day (ListAsked w s) k c)
   unfolding workBy changeOf asks declaredBy
-  does-ask w s z p q = go (runner k) refl (rw q at (unrefused m c (runner k) _ (k .locks) (k .now) (p .state) .runs))
+  does-ask w s z p q = go (runner k) refl (rw q at (unrefused m c (runner k) _ (k .locks) (k .now) _ (p .state) .runs))
     where
       l : Lists day k c w
       l = lists w p (rw q) (unfold declaredBy in rw q at (p .formal .known))
@@ -197,11 +210,11 @@ module _ (day : ℕ) (isDay : IsDay day) (k : State) (h : StateOk day k) (c : Ca
   does-give : (w : Wait) → waiting w ≡ true → Passed day m k c → sortOf m ≡ ListGiven w → Does (roleOf (ListGiven w) false) (workBy day (ListGiven w) k c)
   unfolding workBy changeOf declaredBy
   does-give w z p q =
-      let u = unrefused m c (runner k) _ (k .locks) (k .now) (p .state) in
+      let u = unrefused m c (runner k) _ (k .locks) (k .now) _ (p .state) in
       rw (locks-alone k (runnerAt (runner k)) (giveAll w (k .locks) (named c)) false)
       (gave w (lists w p (rw q) (rw q at (p .formal .known))) (or-then (waiting w) _ (rw q at (u .returnable)) z))
 
-  -- ---- interrupts and ticks
+  -- ---- interrupts and time
 
   does-trigger : (i : ℕ) → Does (plain false) (trigger day k i)
   unfolding trigger
@@ -217,11 +230,9 @@ module _ (day : ℕ) (isDay : IsDay day) (k : State) (h : StateOk day k) (c : Ca
       byBool (is m TG) (λ e. rw e (does-trigger i))
       (λ e. rw (e, enabled-alone k (set (k .enabled) i (is m EI))) (quiet _ (length-set (k .enabled) i (is m EI))))
 
-  does-tick : ltb (k .now .0) lastInstant ≡ true → Does (plain false) (workBy day EveryTask k c)
-  unfolding workBy tick
-  does-tick e =
-      let l = ltb-true (k .now .0) lastInstant e in
-      everyone (plus (k .now) (duration 1)) _ (omega arith) (λ j q. good-tick day (k .counts) (plus (k .now) (duration 1)) (taskAt (k .tasks) j) (omega arith) (h .tasks-ok j q))
+  does-arrive : (x : Instant) → x .0 ≤ lastInstant → Does (plain false) (arrive k x)
+  unfolding arrive
+  does-arrive x l = everyone x _ l (λ j q. good-tick day (k .counts) x (taskAt (k .tasks) j) (omega arith) (h .tasks-ok j q))
 
   -- ---- all sorts
 
@@ -239,4 +250,4 @@ module _ (day : ℕ) (isDay : IsDay day) (k : State) (h : StateOk day k) (c : Ca
       go (ListAsked w s) q e = rw (unprevented (rw q)) (does-ask w s (asked-waits m q) p q)
       go (ListGiven w) q e = rw (unprevented (rw q)) (does-give w (given-waits m q) p q)
       go AnInterrupt q e = rw (unprevented (rw q)) does-interrupt
-      go EveryTask q e = rw (unprevented (rw q)) (does-tick (or-then (is m TI) _ (unrefused m c (runner k) _ (k .locks) (k .now) (p .state) .goes) (tick-mark m q)))
+      go EveryTask q e = rw (unprevented (rw q)) (let u = unrefused m c (runner k) _ (k .locks) (k .now) _ (p .state) in unfold workBy in does-arrive (arrival m k) (in-time k m q (u .goes) (u .wakes)))

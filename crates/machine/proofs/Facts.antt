@@ -20,9 +20,9 @@ use Rattle.task.specs.State.{restOk, wanted}
 use Rattle.task.specs.declared.Task.{Task}
 use Rattle.machine.specs.declared.Counts.{Counts}
 use Rattle.machine.specs.declared.State.{State}
-use Rattle.machine.specs.declared.Running.{Running}
-use Rattle.machine.specs.State.{taskAt, countOf, withRunning}
-use Rattle.machine.specs.Running.{runner}
+use Rattle.machine.specs.declared.OnFile.{OnFile}
+use Rattle.machine.specs.State.{taskAt, countOf, withFile}
+use Rattle.machine.specs.NextEvent.{fileOf}
 use Rattle.machine.specs.Granting.{servable}
 use Rattle.machine.specs.Test.{between, isPriority, keptOk, holdOk, scheduleOk, continuationOk, waitOk, taskOk, countsOk, nobodyServable, valid}
 use Rattle.machine.specs.Invariants.{Tables, Passes}
@@ -59,7 +59,7 @@ pub record StateOk (day : ℕ) (k : State) : Type 0 where
   pub tasks-ok : (i : ℕ) → i < k .counts .tasks → TaskOk day (k .counts) (taskAt (k .tasks) i)
   pub places-ok : Apart (k .counts .tasks) (k .places)
   pub stuck : (i : ℕ) → i < k .counts .tasks → servable (k .counts .tasks) (k .tasks) (k .locks) i ≡ false
-  pub filed-ok : k .file .running ≡ runner k
+  pub filed-ok : k .file ≡ fileOf k
 
 -- ---- from the facts to the test
 
@@ -152,9 +152,9 @@ ok-of-passes day k p =
       filed-ok = taken-filed day k (p .tested);
     }
 
--- Another task on file, which is the rule's.
-pub refiled : (day : ℕ) (k : State) → StateOk day k → (r : Running) → r ≡ runner k → StateOk day (withRunning r k)
-refiled day k h r e =
+-- With what the rules give on file.
+pub refiled : (day : ℕ) (k : State) → StateOk day k → (f : OnFile) → f ≡ fileOf k → StateOk day (withFile f k)
+refiled day k h f e =
     record {
       tables = record { tasks = h .tables .tasks; places = h .tables .places; semaphores = h .tables .semaphores; bolts = h .tables .bolts; enabled = h .tables .enabled };
       now-ok = h .now-ok;

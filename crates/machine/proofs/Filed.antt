@@ -1,4 +1,4 @@
--- The running task on file is the rule's.
+-- What is on file is what the rules give.
 use mathlib.Core.Path.{_≡_, refl, sym}
 use mathlib.Core.Logic.{_≢_}
 use Prim.Native.Nat.{ℕ}
@@ -9,30 +9,31 @@ use Rattle.machine.specs.declared.State.{State}
 use Rattle.machine.specs.declared.Running.{Running}
 use Rattle.machine.specs.declared.Stepped.{Stepped}
 use Rattle.machine.specs.Running.{runner}
+use Rattle.machine.specs.NextEvent.{fileOf}
 use Rattle.machine.specs.Test.{kernelRefusal}
 use Rattle.machine.specs.Work.{Work}
 use Rattle.machine.specs.Calls.{addSemaphore, addBolt, addInterrupt, declaration}
 use Rattle.machine.specs.Step.{refuse, finish, declared, carryOut}
 use Rattle.machine.specs.Promises.{StepFiles, CarryFiles, FiledIsFirst, AnswersFiled}
-use Rattle.machine.proofs.Filing.{taken-valid, taken-filed}
+use Rattle.machine.proofs.Filing.{taken-valid, taken-filed, taken-runner}
 use Rattle.machine.proofs.Urgency.{runner-first}
 use Rattle.machine.proofs.Cases.{out-cases, declaration-cases, carry-cases, step-cases}
-use Rattle.machine.proofs.Answers.{runner-added, tested-bytes}
+use Rattle.machine.proofs.Answers.{file-added, tested-bytes}
 
 -- ---- what is carried out files it
 
 abbrev Files : State → Type 0
-Files k = k .file .running ≡ runner k
+Files k = k .file ≡ fileOf k
 
--- A declaration leaves who runs.
-pub declaration-runner : (k : State) (m : Mark) (c : Call) → runner (declaration m c k) ≡ runner k
-declaration-runner k m c =
-    declaration-cases m c k (λ d. runner d ≡ runner k) (λ e. runner-added k _) (λ e. unfold addSemaphore in refl) (λ e. unfold addBolt in refl)
+-- A declaration leaves who runs and what comes next.
+pub declaration-file : (k : State) (m : Mark) (c : Call) → fileOf (declaration m c k) ≡ fileOf k
+declaration-file k m c =
+    declaration-cases m c k (λ d. fileOf d ≡ fileOf k) (λ e. file-added k _) (λ e. unfold addSemaphore in refl) (λ e. unfold addBolt in refl)
     (λ e. unfold addInterrupt in refl) (λ e. refl) refl
 
 declared-files : (k : State) (m : Mark) (c : Call) → Files (declared k (declaration m c k) .state)
 unfolding declared
-declared-files k m c = sym (declaration-runner k m c)
+declared-files k m c = sym (declaration-file k m c)
 
 finish-files : (k : State) (w : Work) → Files (finish k w .state)
 unfolding finish
@@ -76,7 +77,7 @@ carry-files day k c =
 -- ---- what is on file
 
 pub filed-first : FiledIsFirst
-filed-first day k t = rw (taken-filed day k t) (runner-first k (tested-bytes day k (taken-valid day k t)))
+filed-first day k t = rw (taken-runner day k t) (runner-first k (tested-bytes day k (taken-valid day k t)))
 
 -- An answer names what is on file.
 abbrev Same : Stepped → Type 0
@@ -93,4 +94,4 @@ out-same day k c = out-cases day k c Same (λ e. refl) (λ e. refl)
 pub answers-filed : AnswersFiled
 answers-filed day k s t =
     step-cases day k Same (λ e. contra (taken-valid day k t) e) (λ v m. absurd (m (taken-filed day k t)))
-    (λ e n p q. refuse-same k n (taken-filed day k t)) (λ e c r. out-same day k c) s
+    (λ e n p q. refuse-same k n (taken-runner day k t)) (λ e c r. out-same day k c) s

@@ -5,12 +5,15 @@ use mathlib.Core.Bool.{Bool, true, false}
 use Prim.Native.Nat.{ℕ}
 use native.Mathlib.Omega.{arith}
 use borrow.Author.Tests.{eqb-true, eq-eqb}
-use Rattle.lock.proofs.Bools.{byBool, contra}
+use Rattle.calendar.proofs.Moments.{same-moment, moment-same}
+use Rattle.lock.proofs.Bools.{byBool, contra, both, and-both}
 use Rattle.record.specs.Refusals.{unless}
+use Rattle.machine.specs.declared.OnFile.{OnFile}
 use Rattle.machine.specs.declared.State.{State}
 use Rattle.machine.specs.declared.Running.{Running}
 use Rattle.machine.specs.declared.Running.the-variants.{Idle, Runs}
 use Rattle.machine.specs.Running.{sameRunning, runner}
+use Rattle.machine.specs.NextEvent.{nextEvent, fileOf}
 use Rattle.machine.specs.Test.{valid, filed, kernelRefusal}
 
 -- ---- the same task, or none both times
@@ -27,15 +30,19 @@ same-self (Runs i) = eq-eqb i i refl
 
 -- ---- on file
 
-pub filed-from : (k : State) → k .file .running ≡ runner k → filed k ≡ true
+pub filed-from : (k : State) → k .file ≡ fileOf k → filed k ≡ true
 unfolding filed
-filed-from k e = rw e (same-self (runner k))
+filed-from k e = rw e (and-both (same-self (runner k)) (same-moment (nextEvent k)))
 
-pub filed-to : (k : State) → filed k ≡ true → k .file .running ≡ runner k
+pub filed-to : (k : State) → filed k ≡ true → k .file ≡ fileOf k
 unfolding filed
-filed-to k e = same-true (k .file .running) (runner k) e
+filed-to k e =
+    let p = both (sameRunning (k .file .running) (runner k)) _ e in
+    let r = same-true (k .file .running) (runner k) (p .0) in
+    let n = moment-same (k .file .next) (nextEvent k) (p .1) in
+    λ i. record { running = r i; next = n i }
 
-pub filed-not : (k : State) → k .file .running ≢ runner k → filed k ≡ false
+pub filed-not : (k : State) → k .file ≢ fileOf k → filed k ≡ false
 filed-not k m = byBool (filed k) (λ e. absurd (m (filed-to k e))) (λ e. e)
 
 -- ---- neither 1 nor 16
@@ -54,10 +61,16 @@ module _ (day : ℕ) (k : State) where
   unfolding kernelRefusal
   taken-valid e = no-first (valid day k) (filed k) e
 
-  pub taken-filed : kernelRefusal day k ≡ 0 → k .file .running ≡ runner k
+  pub taken-filed : kernelRefusal day k ≡ 0 → k .file ≡ fileOf k
   unfolding kernelRefusal
   taken-filed e = filed-to k (no-second (valid day k) (filed k) e)
 
-  pub taken : valid day k ≡ true → k .file .running ≡ runner k → kernelRefusal day k ≡ 0
+  pub taken-runner : kernelRefusal day k ≡ 0 → k .file .running ≡ runner k
+  taken-runner e = ap (λ (f : OnFile). f .running) (taken-filed e)
+
+  pub taken-next : kernelRefusal day k ≡ 0 → k .file .next ≡ nextEvent k
+  taken-next e = ap (λ (f : OnFile). f .next) (taken-filed e)
+
+  pub taken : valid day k ≡ true → k .file ≡ fileOf k → kernelRefusal day k ≡ 0
   unfolding kernelRefusal
   taken v e = rw (v, filed-from k e)

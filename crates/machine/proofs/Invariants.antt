@@ -13,7 +13,7 @@ use Rattle.record.specs.declared.Read.the-variants.{Refused, Accepted}
 use Rattle.layout.specs.declared.Call.{Call}
 use Rattle.machine.specs.declared.State.{State}
 use Rattle.machine.specs.Test.{filed, kernelRefusal}
-use Rattle.machine.specs.Running.{runner}
+use Rattle.machine.specs.NextEvent.{fileOf}
 use Rattle.machine.specs.Calls.{declaration, workOf}
 use Rattle.machine.specs.Step.{refuse, declared, orRefuse, carryOut, carryOn, carry, step}
 use Rattle.machine.specs.Invariants.{IsDay, StepTested, StepPasses, CarryPasses}
@@ -23,7 +23,7 @@ use Rattle.machine.proofs.Passed.{refusalOf, Passed, passed, as-mark}
 use Rattle.machine.proofs.Opened.{opened-priority}
 use Rattle.machine.proofs.Cases.{out-cases, declaration-cases, carried-by, stepOpened, step-on}
 use Rattle.machine.proofs.Refused.{misfiled-refused}
-use Rattle.machine.proofs.Filed.{declaration-runner}
+use Rattle.machine.proofs.Filed.{declaration-file}
 use Rattle.machine.proofs.Done.{call-done}
 use Rattle.machine.proofs.Keeping.{did-ok, finish-ok}
 use Rattle.machine.proofs.Declaring.{task-added, semaphore-added, bolt-added, interrupt-added, clock-set}
@@ -47,7 +47,7 @@ module _ (day : ℕ) (isDay : IsDay day) (k : State) (h : StateOk day k) where
 
     carried-ok : Passed day (c .head .mark) k c → StateOk day (carryOut day k c .state)
     carried-ok p =
-        out-cases day k c (λ s. StateOk day (s .state)) (λ e. unfold declared in refiled day _ (declared-ok p) (runner k) (sym (declaration-runner k (c .head .mark) c)))
+        out-cases day k c (λ s. StateOk day (s .state)) (λ e. unfold declared in refiled day _ (declared-ok p) (fileOf k) (sym (declaration-file k (c .head .mark) c)))
         (λ e. finish-ok day k h (workOf day k c) (did-ok day k h (call-done day isDay k h c byte e p)))
 
     pub carry-ok : StateOk day (carryOn day k c .state)
@@ -67,7 +67,7 @@ module _ (day : ℕ) (isDay : IsDay day) (k : State) (h : StateOk day k) where
 pub step-passes : StepPasses
 step-passes day isDay k p s o = passes-of-ok day _ (step-ok day isDay k (ok-of-passes day k p) s o)
 
--- A kernel with a wrong task on file stays as it is.
+-- A kernel with a wrong file stays as it is.
 pub step-tested : StepTested
 step-tested day isDay k t v s o =
     byBool (filed k)

@@ -35,6 +35,7 @@ pub mod WorkPairs
 pub mod Beyond
 pub mod NextEvent
 pub mod Quiet
+pub mod Sleeping
 pub mod Accepted
 pub mod Continuing
 pub mod Undisturbed

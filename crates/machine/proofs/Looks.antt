@@ -8,6 +8,7 @@ use lib.Dec.{leb, ltb, eqb}
 use borrow.Author.Tests.{ltb-true}
 use Rattle.calendar.specs.Limits.{lastInstant, isTimeOfDay}
 use Rattle.calendar.specs.declared.Instant.{Instant}
+use Rattle.calendar.specs.declared.Moment.{Moment}
 use Rattle.layout.specs.declared.Mark.{Mark}
 use Rattle.layout.specs.declared.Mark.the-variants.{AC, TE, SU, CO}
 use Rattle.layout.specs.declared.Call.{Call}
@@ -30,12 +31,14 @@ use Rattle.machine.specs.declared.Sort.{Sort}
 use Rattle.machine.specs.declared.Sort.the-variants.{Declaration, OneTask, TheRunner, ListAsked, ListGiven, AnInterrupt, EveryTask}
 use Rattle.machine.specs.State.{taskAt, countOf, withState, placeAt, withPlaces}
 use Rattle.machine.specs.Running.{urgency, runningOf, runner}
+use Rattle.machine.specs.NextEvent.{nextAmong, nextEvent}
 use Rattle.machine.specs.Granting.{available, couldBeGranted, servable}
 use Rattle.machine.specs.Sums.{allBelow}
 use Rattle.machine.specs.Test.{taskOk, countsOk, nobodyServable, valid, placesOk, filed, kernelRefusal}
 use Rattle.machine.specs.Sorts.{sortOf, givenKind, naming, runnerAt, placeOf}
 use Rattle.machine.specs.Refusals.{listDeclared, declaredBy, declaredIn, formalRefusal, refusalBy, stateRefusal}
 use Rattle.machine.proofs.Urgency.{scan-same}
+use Rattle.machine.proofs.NextEvent.{pending-same}
 use Rattle.machine.proofs.Below.{all-at, all-same}
 use Rattle.machine.proofs.Granting.{could-alike, unopposed-same}
 use Rattle.machine.proofs.Sorts.{other-mark}
@@ -64,6 +67,10 @@ module _ (n : Counts) (ts ts′ : List Task) (same : (i : ℕ) → i < n .tasks 
     pub running-same : runningOf (n .tasks) ps ts ≡ runningOf (n .tasks) ps′ ts′
     unfolding runningOf
     running-same = scan-same (n .tasks) _ _ _ _ (λ i l. rw (same i l)) urgency-same
+
+  pub next-among : (x : Instant) → nextAmong x (n .tasks) ts ≡ nextAmong x (n .tasks) ts′
+  unfolding nextAmong
+  next-among x = rw (pending-same ts ts′ (n .tasks) same)
 
   module _ (r r′ : Locks) (seen : Seen (n .semaphores) (n .bolts) r r′) where
     pub moves-same : (way : Way) (w : Wait) (l : List ℕ) → every (λ x. ltb x (countOf n w)) l ≡ true → canMoveAll way w r l ≡ canMoveAll way w r′ l
@@ -100,9 +107,10 @@ unfolding valid
 in-parts day k = refl
 
 -- A call that names no task isn't refused for one.
-unlooked : (m : Mark) (c : Call) (x : Running) (l : Locks) (n : Instant) → naming (sortOf m) ≡ false → (t t′ : Task) → refusalBy m c x t l n ≡ refusalBy m c x t′ l n
+unlooked : (m : Mark) (c : Call) (x : Running) (l : Locks) (n : Instant) (y : Moment) → naming (sortOf m) ≡ false → (t t′ : Task)
+    → refusalBy m c x t l n y ≡ refusalBy m c x t′ l n y
 unfolding refusalBy
-unlooked m c x l n e t t′ = rw (other-mark naming m AC refl e, other-mark naming m TE refl e, other-mark naming m SU refl e, other-mark naming m CO refl e)
+unlooked m c x l n y e t t′ = rw (other-mark naming m AC refl e, other-mark naming m TE refl e, other-mark naming m SU refl e, other-mark naming m CO refl e)
 
 -- ---- a kernel and one with other tables
 
@@ -145,11 +153,14 @@ module _ (k : State) (ts : List Task) (ps : List ℕ) (r : Locks) (is : List Boo
   pub runner-same : runner k ≡ runner k′
   runner-same = running-same (k .counts) (k .tasks) ts same (k .places) ps stand
 
+  pub next-same : nextEvent k ≡ nextEvent k′
+  next-same = next-among (k .counts) (k .tasks) ts same (k .now)
+
   pub kernel-same : (day : ℕ) → kernelRefusal day k ≡ kernelRefusal day k′
   unfolding kernelRefusal filed
-  kernel-same day = rw (valid-same day, runner-same)
+  kernel-same day = rw (valid-same day, runner-same, next-same)
 
-  -- ---- refusals 8 to 15
+  -- ---- refusals 8 to 15 and 17
 
   task-same : (i : ℕ) → ltb i (k .counts .tasks) ≡ true → taskAt (k .tasks) i ≡ taskAt ts i
   task-same i e = same i (ltb-true i (k .counts .tasks) e)
@@ -170,18 +181,18 @@ module _ (k : State) (ts : List Task) (ps : List ℕ) (r : Locks) (is : List Boo
   given-same EveryTask c e = refl
 
   -- The task is looked at where the call names one.
-  about-same : (m : Mark) (c : Call) (x : Running) (l : Locks) (n : Instant) → declaredIn m (k .counts) c ≡ true
-      → refusalBy m c x (taskAt (k .tasks) (placeOf (sortOf m) (c .head) x)) l n ≡ refusalBy m c x (taskAt ts (placeOf (sortOf m) (c .head) x)) l n
-  about-same m c x l n = go (sortOf m) refl
+  about-same : (m : Mark) (c : Call) (x : Running) (l : Locks) (n : Instant) (y : Moment) → declaredIn m (k .counts) c ≡ true
+      → refusalBy m c x (taskAt (k .tasks) (placeOf (sortOf m) (c .head) x)) l n y ≡ refusalBy m c x (taskAt ts (placeOf (sortOf m) (c .head) x)) l n y
+  about-same m c x l n y = go (sortOf m) refl
     where
-      unseen : naming (sortOf m) ≡ false → (i : ℕ) → refusalBy m c x (taskAt (k .tasks) i) l n ≡ refusalBy m c x (taskAt ts i) l n
-      unseen e i = unlooked m c x l n e (taskAt (k .tasks) i) (taskAt ts i)
+      unseen : naming (sortOf m) ≡ false → (i : ℕ) → refusalBy m c x (taskAt (k .tasks) i) l n y ≡ refusalBy m c x (taskAt ts i) l n y
+      unseen e i = unlooked m c x l n y e (taskAt (k .tasks) i) (taskAt ts i)
 
       go : (s : Sort) → sortOf m ≡ s → declaredBy s (k .counts) c ≡ true
-          → refusalBy m c x (taskAt (k .tasks) (placeOf s (c .head) x)) l n ≡ refusalBy m c x (taskAt ts (placeOf s (c .head) x)) l n
+          → refusalBy m c x (taskAt (k .tasks) (placeOf s (c .head) x)) l n y ≡ refusalBy m c x (taskAt ts (placeOf s (c .head) x)) l n y
       go Declaration q e = unseen (rw q) (runnerAt x)
       go OneTask q e =
-          ap (λ (t : Task). refusalBy m c x t l n)
+          ap (λ (t : Task). refusalBy m c x t l n y)
           (task-same (c .head .number) (unfold declaredBy in both (ltb (c .head .number) (k .counts .tasks)) _ e .0))
       go TheRunner q e = unseen (rw q) (runnerAt x)
       go (ListAsked w b) q e = unseen (rw q) (runnerAt x)
@@ -189,13 +200,15 @@ module _ (k : State) (ts : List Task) (ps : List ℕ) (r : Locks) (is : List Boo
       go AnInterrupt q e = unseen (rw q) (runnerAt x)
       go EveryTask q e = unseen (rw q) (runnerAt x)
 
-  locks-same : (m : Mark) (c : Call) (x : Running) (t : Task) (n : Instant) → declaredIn m (k .counts) c ≡ true
-      → refusalBy m c x t (k .locks) n ≡ refusalBy m c x t r n
+  locks-same : (m : Mark) (c : Call) (x : Running) (t : Task) (n : Instant) (y : Moment) → declaredIn m (k .counts) c ≡ true
+      → refusalBy m c x t (k .locks) n y ≡ refusalBy m c x t r n y
   unfolding refusalBy
-  locks-same m c x t n e = rw (given-same (sortOf m) c e)
+  locks-same m c x t n y e = rw (given-same (sortOf m) c e)
 
   pub state-same : (m : Mark) (c : Call) → declaredIn m (k .counts) c ≡ true → stateRefusal m k c ≡ stateRefusal m k′ c
-  state-same m c e = rw (← runner-same) (about-same m c (runner k) (k .locks) (k .now) e ∙ locks-same m c (runner k) _ (k .now) e)
+  state-same m c e =
+      rw (← runner-same, ← next-same)
+      (about-same m c (runner k) (k .locks) (k .now) (nextEvent k) e ∙ locks-same m c (runner k) _ (k .now) (nextEvent k) e)
 
   pub refusal-same : (day : ℕ) (c : Call) → refusalOf day k c ≡ refusalOf day k′ c
   unfolding refusalOf

@@ -1,24 +1,25 @@
 -- The next event is real and earliest, and quiet ticks leave it.
-use mathlib.Core.Path.{_≡_, refl, sym, ap, _∙_}
+use mathlib.Core.Path.{_≡_, refl, sym, ap, ap₂, _∙_}
 use mathlib.Core.Bool.{true, false, _||_}
-use mathlib.Core.List.{List}
+use mathlib.Core.List.{List, _++_}
 use Prim.Native.Nat.{ℕ, zero, suc, _+_, _-_, _≤_, _<_}
 use native.Mathlib.Decide.{decLt}
 use native.Mathlib.Omega.{arith}
-use borrow.Author.Tests.{lt-ltb, ltb-true}
+use lib.Dec.{ltb}
+use borrow.Author.Tests.{leb-true, lt-ltb, ltb-true, ltb-false}
 use Rattle.calendar.specs.Times.{instant, duration, plus}
-use Rattle.calendar.specs.Moments.{hasAt, before}
+use Rattle.calendar.specs.Moments.{hasAt, before, comesBy, instantOr, firstAfter}
 use Rattle.calendar.specs.declared.Instant.{Instant}
 use Rattle.calendar.specs.declared.Moment.{Moment}
 use Rattle.calendar.specs.declared.Moment.the-variants.{Never, At}
-use Rattle.calendar.proofs.Moments.{first-none, first-is, has-append}
+use Rattle.calendar.proofs.Moments.{earlier, first-none, first-is, first-append, has-append}
 use Rattle.lock.proofs.Bools.{byBool, byEq, contra, neither}
 use Rattle.task.specs.Coming.{pendings, comes}
 use Rattle.task.specs.declared.Task.{Task}
 use Rattle.machine.specs.declared.State.{State}
 use Rattle.machine.specs.State.{taskAt, begunAt}
-use Rattle.machine.specs.NextEvent.{allPending, nextEvent}
-use Rattle.machine.specs.Quiet.{Comes, IsNextEvent, later, NextIsNext, OneIsNext}
+use Rattle.machine.specs.NextEvent.{allPending, nextAmong, nextEvent}
+use Rattle.machine.specs.Quiet.{Quiet, Comes, IsNextEvent, later, NextIsNext, OneIsNext}
 
 -- ---- all that pends
 
@@ -40,6 +41,32 @@ module _ (x : Instant) (ts : List Task) where
       byBool (comes x (taskAt ts n)) (λ c. (n, omega arith, c))
       (λ c. let p = pending-some n (rw (pending-more n, c) at e) in (p .0, omega arith, p .2))
 
+-- All that pends for two tables whose first n tasks have the same to come.
+module _ (ts us : List Task) where
+  pub pending-alike : (n : ℕ) → ((i : ℕ) → i < n → pendings (taskAt ts i) ≡ pendings (taskAt us i)) → allPending n ts ≡ allPending n us
+  unfolding allPending
+  pending-alike zero e = refl
+  pending-alike (suc n) e = ap₂ (λ (a b : List Moment). a ++ b) (e n (omega arith)) (pending-alike n (λ i l. e i (omega arith)))
+
+  pub pending-same : (n : ℕ) → ((i : ℕ) → i < n → taskAt ts i ≡ taskAt us i) → allPending n ts ≡ allPending n us
+  pending-same n e = pending-alike n (λ i l. ap pendings (e i l))
+
+-- So the next event is told by what is first for each task.
+module _ (x : Instant) (ts us : List Task) where
+  pub among-alike : (n : ℕ) → ((i : ℕ) → i < n → firstAfter x (pendings (taskAt ts i)) ≡ firstAfter x (pendings (taskAt us i)))
+      → nextAmong x n ts ≡ nextAmong x n us
+  unfolding nextAmong allPending
+  among-alike zero e = refl
+  among-alike (suc n) e =
+      first-append x (pendings (taskAt ts n)) (allPending n ts)
+      ∙ ap₂ (λ (a b : Moment). earlier a b) (e n (omega arith)) (among-alike n (λ i l. e i (omega arith)))
+      ∙ sym (first-append x (pendings (taskAt us n)) (allPending n us))
+
+-- An instant that comes by l.
+pub instant-by : (l : ℕ) (n : Instant) (m : Moment) → comesBy l m ≡ true → instantOr n m .0 ≤ l
+instant-by l n Never e = contra e refl
+instant-by l n (At x) e = leb-true (x .0) l e
+
 before-before : (m : Moment) (x y : ℕ) → x ≤ y → before (instant y) m ≡ true → before (instant x) m ≡ true
 before-before Never x y l e = refl
 before-before (At n) x y l e = lt-ltb x (n .0) (omega (arith, ltb-true y (n .0) e))
@@ -47,7 +74,7 @@ before-before (At n) x y l e = lt-ltb x (n .0) (omega (arith, ltb-true y (n .0) 
 -- ---- the next event
 
 pub next-is-next : NextIsNext
-unfolding nextEvent
+unfolding nextAmong
 next-is-next k =
     let n = k .counts .tasks in
     let ps = allPending n (k .tasks) in
@@ -79,6 +106,17 @@ module _ {k : State} where
 
 pub one-is-next : OneIsNext
 one-is-next k m p = same-next m (nextEvent k) p (next-is-next k)
+
+-- While nothing comes, it is later.
+pub quiet-before : (k : State) (d : ℕ) → Quiet d k → before (plus (k .now) (duration d)) (nextEvent k) ≡ true
+quiet-before k d q = go (nextEvent k) (next-is-next k)
+  where
+    go : (m : Moment) → IsNextEvent k m → before (plus (k .now) (duration d)) m ≡ true
+    go Never p = refl
+    go (At x) p =
+        let c = p .comes x refl in
+        byBool (ltb (k .now .0 + d) (x .0)) (λ e. e)
+        (λ e. contra (c .2) (q (c .0) (c .1) (x .0) (p .later x refl) (ltb-false (k .now .0 + d) (x .0) e)))
 
 -- It is the same d quiet ticks later.
 pub next-later : (k : State) (d : ℕ) → before (plus (k .now) (duration d)) (nextEvent k) ≡ true → nextEvent (later d k) ≡ nextEvent k

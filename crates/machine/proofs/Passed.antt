@@ -6,10 +6,12 @@ use native.Mathlib.Omega.{arith}
 use lib.Dec.{leb, ltb, eqb}
 use borrow.Author.Tests.{leb-true, ltb-true}
 use Rattle.calendar.specs.Limits.{lastInstant, isTimeOfDay}
+use Rattle.calendar.specs.Moments.{comesBy}
 use Rattle.calendar.specs.declared.Instant.{Instant}
+use Rattle.calendar.specs.declared.Moment.{Moment}
 use Rattle.layout.specs.Marks.{is, form}
 use Rattle.layout.specs.declared.Mark.{Mark}
-use Rattle.layout.specs.declared.Mark.the-variants.{DT, DS, DB, IT, AC, TE, SU, TI}
+use Rattle.layout.specs.declared.Mark.the-variants.{DT, DS, DB, IT, AC, TE, SU, TI, SL}
 use Rattle.layout.specs.declared.Call.{Call}
 use Rattle.record.specs.Refusals.{mostValue, mostNumbers, formedAs, formed, named, listed, timed, unless, before, shape, times}
 use Rattle.lists.specs.Lists.{distinct}
@@ -65,7 +67,7 @@ formal day n begun c e =
     record { timely = a .0; formed = f .0; listed = l .0; known = d .0; timed = t .0; room = r .0 }
 
 -- No ground of the state, for a call with the mark m.
-pub record Unrefused (m : Mark) (c : Call) (r : Running) (t : Task) (l : Locks) (n : Instant) : Type 0 where
+pub record Unrefused (m : Mark) (c : Call) (r : Running) (t : Task) (l : Locks) (n : Instant) (e : Moment) : Type 0 where
   pub runs : (not (needsRunner (sortOf m)) || someone r) ≡ true
   pub ended : (not (is m AC && eqb (c .head .kind) 0) || not (t .alive)) ≡ true
   pub lives : (not (is m TE || is m SU || isContinue m (c .head)) || t .alive) ≡ true
@@ -73,6 +75,7 @@ pub record Unrefused (m : Mark) (c : Call) (r : Running) (t : Task) (l : Locks) 
   pub held : (not (isContinue m (c .head)) || not (unheld (t .hold))) ≡ true
   pub returnable : (not (waiting (givenKind (sortOf m))) || every (taken (givenKind (sortOf m)) l) (named c)) ≡ true
   pub goes : (not (is m TI) || ltb (n .0) lastInstant) ≡ true
+  pub wakes : (not (is m SL) || comesBy lastInstant e) ≡ true
 
 unreturnable-passed : (w : Wait) (b : Bool) (rest : ℕ) → unless b (unreturnable w) rest ≡ 0 → (b ≡ true) × (rest ≡ 0)
 unreturnable-passed Nothing b rest e = unless-passed b 13 rest e
@@ -80,9 +83,9 @@ unreturnable-passed Request b rest e = unless-passed b 12 rest e
 unreturnable-passed Reserve b rest e = unless-passed b 13 rest e
 unreturnable-passed Enter b rest e = unless-passed b 13 rest e
 
-pub unrefused : (m : Mark) (c : Call) (r : Running) (t : Task) (l : Locks) (n : Instant) → refusalBy m c r t l n ≡ 0 → Unrefused m c r t l n
+pub unrefused : (m : Mark) (c : Call) (r : Running) (t : Task) (l : Locks) (n : Instant) (x : Moment) → refusalBy m c r t l n x ≡ 0 → Unrefused m c r t l n x
 unfolding refusalBy
-unrefused m c r t l n e =
+unrefused m c r t l n x e =
     let w = givenKind (sortOf m) in
     let a = unless-passed (not (needsRunner (sortOf m)) || someone r) 7 _ e in
     let b = unless-passed (not (is m AC && eqb (c .head .kind) 0) || not (t .alive)) 8 _ (a .1) in
@@ -90,10 +93,11 @@ unrefused m c r t l n e =
     let f = unless-passed (not (is m SU) || not (suspended (t .hold))) 10 _ (d .1) in
     let g = unless-passed (not (isContinue m (c .head)) || not (unheld (t .hold))) 11 _ (f .1) in
     let h = unreturnable-passed w (not (waiting w) || every (taken w l) (named c)) _ (g .1) in
-    let i = unless-passed (not (is m TI) || ltb (n .0) lastInstant) 14 0 (h .1) in
-    record { runs = a .0; ended = b .0; lives = d .0; unsuspended = f .0; held = g .0; returnable = h .0; goes = i .0 }
+    let i = unless-passed (not (is m TI) || ltb (n .0) lastInstant) 14 _ (h .1) in
+    let j = unless-passed (not (is m SL) || comesBy lastInstant x) 16 0 (i .1) in
+    record { runs = a .0; ended = b .0; lives = d .0; unsuspended = f .0; held = g .0; returnable = h .0; goes = i .0; wakes = j .0 }
 
--- 2 to 15, or 0.
+-- 2 to 15, 17, or 0.
 unfoldable pub refusalOf : ℕ → State → Call → ℕ
 refusalOf day k c = before (formalRefusal day (k .counts) (k .begun) c) (stateRefusal (c .head .mark) k c)
 

@@ -1,5 +1,5 @@
 -- While nothing comes, ticks only move the instant.
-use mathlib.Core.Path.{_≡_, refl, ap, ap₂, _∙_}
+use mathlib.Core.Path.{_≡_, refl, sym, ap, ap₂, _∙_}
 use mathlib.Core.Bool.{Bool, true, false}
 use mathlib.Core.List.{List, [], _∷_, _++_, map}
 use Prim.Native.Nat.{ℕ, zero, suc, _+_, _≤_, _<_}
@@ -10,6 +10,7 @@ use borrow.Author.Tests.{le-leb, lt-ltb}
 use Rattle.calendar.specs.Limits.{lastInstant}
 use Rattle.calendar.specs.Times.{duration, plus}
 use Rattle.calendar.specs.declared.Instant.{Instant}
+use Rattle.calendar.specs.declared.Moment.{Moment}
 use Rattle.layout.specs.Marks.{among}
 use Rattle.layout.specs.Fields.{callOf, headOf, listOf, bytesOf}
 use Rattle.layout.specs.declared.Call.{Call}
@@ -27,19 +28,20 @@ use Rattle.machine.specs.declared.Stepped.{Stepped}
 use Rattle.machine.specs.Sets.{setOf, mark, noSets}
 use Rattle.machine.specs.State.{mostTasks, taskAt, begunAt}
 use Rattle.machine.specs.Running.{runner, urgency}
+use Rattle.machine.specs.NextEvent.{nextEvent, fileOf}
 use Rattle.machine.specs.Granting.{servable}
 use Rattle.machine.specs.Work.{turns, everyTurn}
 use Rattle.machine.specs.Serving.{serve}
 use Rattle.machine.specs.Test.{nobodyServable, valid, kernelRefusal}
 use Rattle.machine.specs.Sorts.{declares}
 use Rattle.machine.specs.Refusals.{declaredBy, roomFor, formalRefusal, admittedIf, refusalBy, stateRefusal}
-use Rattle.machine.specs.Calls.{tick, workBy}
+use Rattle.machine.specs.Calls.{arrive, arrival, workBy}
 use Rattle.machine.specs.Step.{plainAnswer, finish, orRefuse, carryOut, settle, step}
 use Rattle.machine.specs.Log.{final, log}
 use Rattle.machine.specs.Scripts.{row, oneTick}
 use Rattle.machine.specs.Quiet.{Quiet, later, TicksAreQuiet, QuietUpToNext}
 use Rattle.machine.proofs.Below.{mostUrgent-none}
-use Rattle.machine.proofs.NextEvent.{next-is-next, next-later}
+use Rattle.machine.proofs.NextEvent.{next-is-next, quiet-before, next-later}
 use Rattle.machine.proofs.Filing.{taken-valid, taken-filed, taken}
 use Rattle.machine.proofs.Passed.{parts, tested}
 use Rattle.machine.proofs.SetLaws.{each-same, unmarked-none}
@@ -65,10 +67,17 @@ module _ (day : ℕ) (k : State) where
   unfolding valid nobodyServable
   still-valid n a b v = rw (le-leb (n .0) lastInstant b) (rw (le-leb (k .now .0) lastInstant a) at v)
 
-  pub still-taken : (n : Instant) → k .now .0 ≤ lastInstant → n .0 ≤ lastInstant → kernelRefusal day k ≡ 0 → kernelRefusal day (begunAt n k) ≡ 0
-  still-taken n a b t = taken day (begunAt n k) (still-valid n a b (taken-valid day k t)) (taken-filed day k t)
+  pub still-taken : (n : Instant) → k .now .0 ≤ lastInstant → n .0 ≤ lastInstant → nextEvent (begunAt n k) ≡ nextEvent k
+      → kernelRefusal day k ≡ 0 → kernelRefusal day (begunAt n k) ≡ 0
+  still-taken n a b e t =
+      taken day (begunAt n k) (still-valid n a b (taken-valid day k t)) (taken-filed day k t ∙ ap (λ (m : Moment). record { running = runner k; next = m }) (sym e))
 
 -- ---- one tick
+
+-- A quiet one leaves the next event.
+pub next-after : (k : State) → Quiet 1 k → nextEvent (begunAt (plus (k .now) (duration 1)) k) ≡ nextEvent k
+unfolding later
+next-after k q = next-later k 1 (quiet-before k 1 q)
 
 -- Its record is well-formed for every kernel.
 tick-formed : (day : ℕ) (n : Counts) (b : Bool) → formalRefusal day n b (callOf TI oneTick) ≡ 0
@@ -90,9 +99,9 @@ module _ (day : ℕ) (k : State) (room : length (k .tasks) ≡ mostTasks) (v : k
       )
 
   tick-still : Quiet 1 k
-      → tick k
+      → arrive k (plus (k .now) (duration 1))
       ≡ record { now = plus (k .now) (duration 1); tasks = k .tasks; locks = k .locks; enabled = k .enabled; sets = noSets }
-  unfolding tick everyTurn
+  unfolding arrive everyTurn
   tick-still q =
       let n = k .counts .tasks in
       let f = tickTurn (plus (k .now) (duration 1)) in
@@ -110,16 +119,18 @@ module _ (day : ℕ) (k : State) (room : length (k .tasks) ≡ mostTasks) (v : k
       }
 
   tick-moves : Quiet 1 k
-      → finish k (tick k)
+      → finish k (arrive k (plus (k .now) (duration 1)))
       ≡ record { state = begunAt (plus (k .now) (duration 1)) k; answer = plainAnswer 0 (runner k) }
   unfolding finish
   tick-moves q =
       let n = k .counts .tasks in
-      rw (tick-still q, nobody-served 0 n, moved-nobody n (event (k .tasks) (k .tasks) 0) n (k .places) (λ i l. no-event (k .tasks) i), ← taken-filed day k v)
+      let f : k .file ≡ fileOf (begunAt (plus (k .now) (duration 1)) k) =
+      taken-filed day k v ∙ ap (λ (m : Moment). record { running = runner k; next = m }) (sym (next-after k q)) in
+      rw (tick-still q, nobody-served 0 n, moved-nobody n (event (k .tasks) (k .tasks) 0) n (k .places) (λ i l. no-event (k .tasks) i), ← f)
 
   -- A tick, quiet or not.
-  pub tick-step : (c : Call) → step day k oneTick ≡ orRefuse k (stateRefusal TI k c) (finish k (tick k))
-  unfolding step settle carryOut declares workBy admittedIf refusalBy opened among headOf bytesOf
+  pub tick-step : (c : Call) → step day k oneTick ≡ orRefuse k (stateRefusal TI k c) (finish k (arrive k (plus (k .now) (duration 1))))
+  unfolding step settle carryOut declares workBy arrival admittedIf refusalBy opened among headOf bytesOf
   tick-step c = rw (v, tick-formed day (k .counts) (k .begun))
 
   pub quiet-step : Quiet 1 k → k .now .0 < lastInstant
@@ -153,12 +164,26 @@ unfolding log final row later next
 ticks-are-quiet day zero k room v q l = record { answers = refl; state = refl }
 ticks-are-quiet day (suc d) k room v q l =
     let s = quiet-step day k room v (first-quiet d k q) (omega arith) in
-    let w = still-taken day k (plus (k .now) (duration 1)) (omega arith) (omega arith) v in
+    let w = still-taken day k (plus (k .now) (duration 1)) (omega arith) (omega arith) (next-after k (first-quiet d k q)) v in
     let r = ticks-are-quiet day d (next k) room w (quiet-next d k q) (omega arith) in
     record {
       answers = rw (s, r .answers);
       state = ap (λ (x : Stepped). final day (x .state) (row d oneTick)) s ∙ r .state ∙ later-next d k;
     }
+
+-- The kernel later is the same but for its instant.
+pub record Later (day d : ℕ) (k : State) : Type 0 where
+  pub tasks : later d k .tasks ≡ k .tasks
+  pub counts : later d k .counts ≡ k .counts
+  pub now : later d k .now .0 ≡ k .now .0 + d
+  pub tested : kernelRefusal day (later d k) ≡ 0
+
+pub later-as : (day d : ℕ) (k : State) → kernelRefusal day k ≡ 0 → Quiet d k → k .now .0 + d ≤ lastInstant → Later day d k
+unfolding later
+later-as day zero k v q l = record { tasks = refl; counts = refl; now = omega arith; tested = v }
+later-as day (suc d) k v q l =
+    let e = next-later k (suc d) (quiet-before k (suc d) q) in
+    record { tasks = refl; counts = refl; now = refl; tested = still-taken day k (plus (k .now) (duration (suc d))) (omega arith) l e v }
 
 pub quiet-up-to-next : QuietUpToNext
 quiet-up-to-next day d k room v b l =

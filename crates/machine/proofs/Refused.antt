@@ -58,5 +58,5 @@ refusals-numbered day k s =
     step-cases day k (λ t. Numbered day k (t .answer .number))
     (λ v. rw refuse-number (record { most = omega arith; first = λ e. v; second = λ e. absurd (omega arith) }))
     (λ v m. rw refuse-number (record { most = omega arith; first = λ e. absurd (omega arith); second = λ e. (v, m) }))
-    (λ v n p q. rw refuse-number (record { most = omega arith; first = λ e. absurd (omega arith); second = λ e. absurd (omega arith) }))
+    (λ v n p q. rw refuse-number (record { most = q .most; first = λ e. absurd (q .no1 e); second = λ e. absurd (q .no16 e) }))
     (λ v c e. rw done-number (record { most = omega arith; first = λ e. absurd (omega arith); second = λ e. absurd (omega arith) })) s

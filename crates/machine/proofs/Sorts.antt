@@ -15,7 +15,7 @@ use Rattle.layout.specs.declared.Form.the-variants.{Bare, Number, Continuation,
 use Rattle.layout.proofs.MarksLaws.{is-mark, allMarks, every-mark}
 use Rattle.lists.specs.Lists.{allZero, names, distinct}
 use Rattle.record.specs.Refusals.{mostNumbers, uses, orZero, cleanNames, cleanStart, ranged, formedAs, named, listed}
-use Rattle.layout.specs.declared.Mark.the-variants.{AC, TE, SU, PR, CO, TI}
+use Rattle.layout.specs.declared.Mark.the-variants.{AC, TE, SU, PR, CO, TI, SL}
 use Rattle.lock.specs.Locks.{waiting}
 use Rattle.lock.specs.declared.Wait.{Wait}
 use Rattle.lock.proofs.Bools.{byBool, contra, both, and-both}
@@ -38,7 +38,7 @@ pub other-mark : (p : Sort → Bool) (m n : Mark) → p (sortOf n) ≡ true → 
 other-mark p m n a b =
     byBool (is m n) (λ e. contra (ap (λ (x : Mark). p (sortOf x)) (is-mark m n e) ∙ a) b) (λ e. e)
 
--- The kinds of lists are kinds of waits, five marks name a task, and TI alone is about every task.
+-- The kinds of lists are kinds of waits, five marks name a task, and TI and SL are about every task.
 kindOk : Sort → Mark → Bool
 kindOk Declaration m = true
 kindOk OneTask m = is m AC || is m TE || is m SU || is m PR || is m CO
@@ -46,7 +46,7 @@ kindOk TheRunner m = true
 kindOk (ListAsked w b) m = waiting w
 kindOk (ListGiven w) m = waiting w
 kindOk AnInterrupt m = true
-kindOk EveryTask m = is m TI
+kindOk EveryTask m = is m TI || is m SL
 
 kind-ok : (m : Mark) (s : Sort) → sortOf m ≡ s → kindOk s m ≡ true
 unfolding kindOk allMarks
@@ -64,7 +64,7 @@ pub continue-mark : (m : Mark) → sortOf m ≡ OneTask → is m AC ≡ false �
 unfolding kindOk
 continue-mark m q a b c d = rw (a, b, c, d) at (kind-ok m OneTask q)
 
-pub tick-mark : (m : Mark) → sortOf m ≡ EveryTask → is m TI ≡ true
+pub tick-mark : (m : Mark) → sortOf m ≡ EveryTask → (is m TI || is m SL) ≡ true
 unfolding kindOk
 tick-mark m q = kind-ok m EveryTask q
 

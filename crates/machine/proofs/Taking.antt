@@ -21,6 +21,8 @@ use Rattle.machine.specs.declared.Running.{Running}
 use Rattle.machine.specs.declared.Stepped.{Stepped}
 use Rattle.machine.specs.Sets.{Started}
 use Rattle.machine.specs.State.{mostTasks, taskAt, placeAt, freshTask, nothing}
+use Rattle.calendar.specs.Moments.{firstAfter}
+use Rattle.machine.specs.NextEvent.{allPending, nextAmong}
 use Rattle.machine.specs.Running.{urgency, runningOf, mostUrgent}
 use Rattle.machine.specs.Places.{event, standsBefore}
 use Rattle.machine.specs.Work.{Work}
@@ -274,7 +276,7 @@ module _ (day : ℕ) (isDay : IsDay day) where
         tasks-ok = λ i l. absurd (not-suc-le-zero l);
         places-ok = record { range = λ i l. absurd (not-suc-le-zero l); apart = λ i j l m e. absurd (not-suc-le-zero l) };
         stuck = λ i l. absurd (not-suc-le-zero l);
-        filed-ok = unfold runningOf in unfold mostUrgent in refl;
+        filed-ok = unfold runningOf in unfold mostUrgent in unfold nextAmong in unfold allPending in unfold firstAfter in refl;
       })
 
   nothing-told : Told nothing 0 (λ i. 0)

@@ -1,20 +1,18 @@
 -- What touches no continuation leaves it as it is: one step, and a list of records.
 use mathlib.Core.Path.{_≡_, refl, sym, _∙_}
-use mathlib.Core.Bool.{Bool, true, false, not, _&&_, and-true}
+use mathlib.Core.Bool.{Bool, true, false, not, _&&_, _||_, and-true}
 use mathlib.Core.List.{List, [], _∷_}
 use Prim.Native.Nat.{ℕ, zero, suc, _<_}
 use native.Mathlib.Omega.{arith}
 use lib.Dec.{eqb}
 use lib.Seq.{getD-set-other}
 use borrow.Author.Tests.{eq-eqb, ltb-false, not-true}
-use Rattle.calendar.specs.Limits.{tick as aTick}
-use Rattle.calendar.specs.Times.{duration, plus}
 use Rattle.calendar.specs.declared.Instant.{Instant}
 use Rattle.layout.specs.Marks.{is}
 use Rattle.layout.specs.declared.Call.{Call}
 use Rattle.layout.specs.declared.Head.{Head}
 use Rattle.layout.specs.declared.Mark.{Mark}
-use Rattle.layout.specs.declared.Mark.the-variants.{AC, TE, SU, PR, CO, RE, TG, TI}
+use Rattle.layout.specs.declared.Mark.the-variants.{AC, TE, SU, PR, CO, RE, TG, TI, SL}
 use Rattle.record.specs.Refusals.{scheduled, named}
 use Rattle.record.specs.Reading.{callWith, opened}
 use Rattle.record.specs.declared.Read.{Read}
@@ -43,7 +41,7 @@ use Rattle.machine.specs.Sorts.{sortOf, runnerAt}
 use Rattle.machine.specs.Work.{byTurn, changed, onlyEnabled, everyTurn}
 use Rattle.machine.specs.Test.{valid, kernelRefusal}
 use Rattle.machine.specs.Activation.{activateTurn, goOnTurn, resumeBy}
-use Rattle.machine.specs.Calls.{addTask, addSemaphore, addBolt, addInterrupt, declaration, namedTurn, runnerTurn, asks, changeOf, trigger, interruptBy, tick, workBy, workOf}
+use Rattle.machine.specs.Calls.{addTask, addSemaphore, addBolt, addInterrupt, declaration, namedTurn, runnerTurn, asks, changeOf, trigger, interruptBy, arrive, arrival, workBy, workOf}
 use Rattle.machine.specs.Step.{refuse, finish, declared, orRefuse, carryOut, step}
 use Rattle.machine.specs.Log.{final}
 use Rattle.machine.specs.Continuing.{isRunner, touches, touchesBy, disturbs, NothingElse, undisturbed, StaysOverLists, taskAfter}
@@ -59,12 +57,12 @@ record Untouched (k : State) (c : Call) (i : ℕ) : Type 0 where
   prevented : (is (c .head .mark) PR && eqb (c .head .number) i) ≡ false
   resumed : (is (c .head .mark) RE && scheduled (c .head .kind) && isRunner (runner k) i) ≡ false
   triggered : (is (c .head .mark) TG && enabledAt k (c .head .number) && listens (c .head .number) (taskAt (k .tasks) i .continuation)) ≡ false
-  ticked : (is (c .head .mark) TI && falls (plus (k .now) (duration aTick)) (taskAt (k .tasks) i .continuation)) ≡ false
+  ticked : ((is (c .head .mark) TI || is (c .head .mark) SL) && falls (arrival (c .head .mark) k) (taskAt (k .tasks) i .continuation)) ≡ false
 
 untouched : (k : State) (c : Call) (i : ℕ) → touches k c i ≡ false → Untouched k c i
 unfolding touches
 untouched k c i e =
-    let a = neither _ (is (c .head .mark) TI && falls (plus (k .now) (duration aTick)) (taskAt (k .tasks) i .continuation)) e in
+    let a = neither _ ((is (c .head .mark) TI || is (c .head .mark) SL) && falls (arrival (c .head .mark) k) (taskAt (k .tasks) i .continuation)) e in
     let b = neither _ (is (c .head .mark) TG && enabledAt k (c .head .number) && listens (c .head .number) (taskAt (k .tasks) i .continuation)) (a .0) in
     let d = neither _ (is (c .head .mark) RE && scheduled (c .head .kind) && isRunner (runner k) i) (b .0) in
     let f = neither (is (c .head .mark) CO && scheduled (c .head .kind) && eqb (c .head .number) i) (is (c .head .mark) PR && eqb (c .head .number) i) (d .0) in
@@ -135,7 +133,7 @@ module _ (day : ℕ) (k : State) (v : valid day k ≡ true) (c : Call) (p : Pass
 
   runner-work : sortOf m ≡ TheRunner → Same (workBy day TheRunner k c .tasks)
   unfolding workBy changeOf
-  runner-work q = go (runner k) refl (rw q at (unrefused m c (runner k) _ (k .locks) (k .now) (p .state) .runs))
+  runner-work q = go (runner k) refl (rw q at (unrefused m c (runner k) _ (k .locks) (k .now) _ (p .state) .runs))
     where
       go : (r : Running) → runner k ≡ r → someone r ≡ true
           → Same (changed k (runnerAt r) (byTurn (k .locks) (runnerTurn day (k .clock) (k .now) m (c .head) (taskAt (k .tasks) (runnerAt r)))) .tasks)
@@ -162,10 +160,10 @@ module _ (day : ℕ) (k : State) (v : valid day k ≡ true) (c : Call) (p : Pass
       (λ e. rw e (none-same _))
 
   tick-work : sortOf m ≡ EveryTask → Same (workBy day EveryTask k c .tasks)
-  unfolding workBy tick
+  unfolding workBy arrive
   tick-work q =
-      every-same (plus (k .now) (duration aTick)) (tickTurn (plus (k .now) (duration aTick)))
-      (left-alone .tick (plus (k .now) (duration aTick)) (taskAt (k .tasks) i) (rw (tick-mark m q) at (u .ticked)))
+      every-same (arrival m k) (tickTurn (arrival m k))
+      (left-alone .tick (arrival m k) (taskAt (k .tasks) i) (rw (tick-mark m q) at (u .ticked)))
 
   work-same : (x : Sort) → sortOf m ≡ x → Same (workBy day x k c .tasks)
   work-same Declaration q = unfold workBy in none-same (k .enabled)

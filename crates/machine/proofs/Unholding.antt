@@ -23,7 +23,7 @@ use Rattle.machine.specs.declared.State.{State}
 use Rattle.machine.specs.State.{mostTasks, taskAt}
 use Rattle.machine.specs.Test.{kernelRefusal}
 use Rattle.machine.specs.Refusals.{refusalBy}
-use Rattle.machine.specs.Calls.{tick}
+use Rattle.machine.specs.Calls.{arrive}
 use Rattle.machine.specs.Step.{finish, step}
 use Rattle.machine.specs.Log.{AllOctets, final, log}
 use Rattle.machine.specs.Invariants.{IsDay, Passes}
@@ -33,7 +33,7 @@ use Rattle.machine.specs.Continuing.{SameButWait, taskAfter, DueInTime, 
 use Rattle.machine.proofs.Filing.{taken-valid}
 use Rattle.machine.proofs.Rows.{row-split, log-append, final-append}
 use Rattle.machine.proofs.Invariants.{step-passes}
-use Rattle.machine.proofs.Quiet.{still-taken, tick-step, ticks-are-quiet}
+use Rattle.machine.proofs.Quiet.{tick-step, ticks-are-quiet, later-as}
 use Rattle.machine.proofs.Accepted.{finish-keeps, fires-on, task-ok, table, every-at}
 use Rattle.machine.proofs.Undisturbed.{still-declared, stays-over-lists}
 
@@ -47,7 +47,7 @@ next-falls a x e =
 -- ---- one tick
 
 module _ (day : ℕ) (k : State) (room : length (k .tasks) ≡ mostTasks) (v : kernelRefusal day k ≡ 0) (l : k .now .0 < lastInstant) where
-  ticked : step day k oneTick ≡ finish k (tick k)
+  ticked : step day k oneTick ≡ finish k (arrive k (plus (k .now) (duration 1)))
   unfolding refusalBy
   ticked = tick-step day k room v (callOf TI oneTick) ∙ rw (lt-ltb (k .now .0) lastInstant l)
 
@@ -57,10 +57,10 @@ module _ (day : ℕ) (k : State) (room : length (k .tasks) ≡ mostTasks) (v : k
   -- The turn of each declared task.
   ticked-turn : (i : ℕ) → i < k .counts .tasks
       → SameButWait (tickTurn (plus (k .now) (duration 1)) (taskAt (k .tasks) i) .task) (taskAfter day k oneTick i)
-  unfolding tick
+  unfolding arrive
   ticked-turn i q =
       let n = plus (k .now) (duration 1) in
-      rw ticked (rw (every-at k n (tickTurn n) (table day k (taken-valid day k v)) i q) at (finish-keeps k (tick k) i))
+      rw ticked (rw (every-at k n (tickTurn n) (table day k (taken-valid day k v)) i q) at (finish-keeps k (arrive k n) i))
 
 pub due-in-time : DueInTime
 due-in-time day k i x room v l e q m =
@@ -73,19 +73,6 @@ due-in-time day k i x room v l e q m =
 
 -- ---- after d quiet ticks
 
--- The kernel later is the same but for its instant.
-record Later (day d : ℕ) (k : State) : Type 0 where
-  tasks : later d k .tasks ≡ k .tasks
-  counts : later d k .counts ≡ k .counts
-  now : later d k .now .0 ≡ k .now .0 + d
-  tested : kernelRefusal day (later d k) ≡ 0
-
-later-as : (day d : ℕ) (k : State) → kernelRefusal day k ≡ 0 → k .now .0 + d ≤ lastInstant → Later day d k
-unfolding later
-later-as day zero k v l = record { tasks = refl; counts = refl; now = omega arith; tested = v }
-later-as day (suc d) k v l =
-    record { tasks = refl; counts = refl; now = refl; tested = still-taken day k (plus (k .now) (duration (suc d))) (omega arith) l v }
-
 -- d ticks and one more.
 one-more : (d : ℕ) → row (suc d) oneTick ≡ row d oneTick ++ (oneTick ∷ [])
 unfolding row
@@ -95,7 +82,7 @@ pub due-after-ticks : DueAfterTicks
 unfolding log final
 due-after-ticks day d k i x room v l e q n m =
     let r = ticks-are-quiet day d k room v q (omega arith) in
-    let a = later-as day d k v (omega arith) in
+    let a = later-as day d k v q (omega arith) in
     let z = later d k in
     let t : taskAt (z .tasks) i ≡ taskAt (k .tasks) i = ap (λ (ts : List Task). taskAt ts i) (a .tasks) in
     let y = due-in-time day z i x (rw (a .tasks) room) (a .tested) (rw (a .counts) l) (rw (a .tasks) e) (omega (arith, a .now)) m in

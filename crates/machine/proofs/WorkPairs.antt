@@ -40,11 +40,11 @@ use Rattle.machine.specs.Sets.{only}
 use Rattle.machine.specs.Sorts.{needsRunner, runnerAt}
 use Rattle.machine.specs.Work.{Work, byLocks, changed, onlyEnabled, turns, everyTurn}
 use Rattle.machine.specs.Refusals.{listDeclared, declaredBy}
-use Rattle.machine.specs.Calls.{namedTurn, runnerTurn, asks, changeOf, trigger, interruptBy, tick, workBy}
+use Rattle.machine.specs.Calls.{namedTurn, runnerTurn, asks, changeOf, trigger, interruptBy, arrive, arrival, workBy}
 use Rattle.machine.specs.Activation.{alarmBy, activateTurn, goOnTurn, resumeBy}
 use Rattle.machine.proofs.Urgency.{Below, runner-below}
 use Rattle.machine.proofs.Passed.{Listed, Fits}
-use Rattle.machine.proofs.Looks.{could-same, runner-same}
+use Rattle.machine.proofs.Looks.{next-among, could-same, runner-same}
 use Rattle.machine.proofs.Pairs.{Pair, listed-on, pair-set}
 use Rattle.machine.proofs.Works.{oneTurn, onlyLocks, locks-alone, enabled-alone, map-at}
 
@@ -168,11 +168,15 @@ module _ (k : State) (ts : List Task) (ps : List ℕ) (r : Locks) (is : List Boo
           sets = refl;
         })
 
-  -- ---- interrupts and ticks
+  -- ---- interrupts and time
 
-  tick-pair : WorkPair n (tick k) (tick k′)
-  unfolding tick
-  tick-pair = every-pair _ (λ t. no-wait-tick t _) _
+  arrival-same : (m : Mark) → arrival m k ≡ arrival m k′
+  unfolding arrival
+  arrival-same m = rw (next-among n (k .tasks) ts (h .tasks .below) (k .now))
+
+  arrive-pair : (x : Instant) → WorkPair n (arrive k x) (arrive k′ x)
+  unfolding arrive
+  arrive-pair x = every-pair _ (λ t. no-wait-tick t _) _
 
   trigger-pair : (day i : ℕ) → i < n .interrupts → WorkPair n (trigger day k i) (trigger day k′ i)
   unfolding trigger
@@ -240,4 +244,4 @@ module _ (k : State) (ts : List Task) (ps : List ℕ) (r : Locks) (is : List Boo
       runner-pair (λ z i. changed z i (byLocks (taskAt (z .tasks) i) (giveAll w (z .locks) (named c)) false))
       (λ i l. locks-pair i _ _ false (move-alike mostSemaphores mostBolts (n .semaphores) (n .bolts) (f .semaphores) (f .bolts) Give w (named c) (k .locks) r (h .locks))) a
   work-pair day c AnInterrupt e a = interrupt-pair day (c .head .mark) (c .head .number) (ltb-true _ (n .interrupts) e)
-  work-pair day c EveryTask e a = tick-pair
+  work-pair day c EveryTask e a = rw (arrival-same (c .head .mark)) (arrive-pair (arrival (c .head .mark) k′))

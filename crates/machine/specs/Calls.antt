@@ -5,12 +5,13 @@ use Prim.Native.Nat.{ℕ, _+_}
 use lib.ListN.{set}
 use Rattle.calendar.specs.Limits.{tick as oneTick}
 use Rattle.calendar.specs.Times.{duration, plus}
+use Rattle.calendar.specs.Moments.{instantOr}
 use Rattle.calendar.specs.declared.Instant.{Instant}
 use Rattle.layout.specs.declared.Head.{Head}
 use Rattle.layout.specs.Marks.{is}
 use Rattle.layout.specs.declared.Call.{Call}
 use Rattle.layout.specs.declared.Mark.{Mark}
-use Rattle.layout.specs.declared.Mark.the-variants.{DT, DS, DB, IT, DC, AC, TE, SU, PR, RE, TG, EI}
+use Rattle.layout.specs.declared.Mark.the-variants.{DT, DS, DB, IT, DC, AC, TE, SU, PR, RE, TG, EI, SL}
 use Rattle.record.specs.Refusals.{named}
 use Rattle.lock.specs.Locks.{emptyBolt, withValue, withBolt, takeAll, giveAll}
 use Rattle.lock.specs.declared.Locks.{Locks}
@@ -27,6 +28,7 @@ use Rattle.machine.specs.State.{taskAt, enabledAt, freshTask, withState,
 use Rattle.machine.specs.Sorts.{sortOf, placeOf}
 use Rattle.machine.specs.Activation.{activateTurn, goOnTurn, resumeBy}
 use Rattle.machine.specs.Running.{runner}
+use Rattle.machine.specs.NextEvent.{nextEvent}
 use Rattle.machine.specs.Granting.{couldBeGranted}
 use Rattle.machine.specs.Work.{Work, byTurn, byLocks, changed, onlyEnabled, everyTurn}
 
@@ -122,10 +124,15 @@ enable k i b = onlyEnabled k (set (k .enabled) i b)
 unfoldable pub interruptBy : ℕ → Mark → State → ℕ → Work
 interruptBy day m k i = cond (is m TG) (trigger day k i) (enable k i (is m EI))
 
--- ---- one tick
+-- ---- time
 
-unfoldable pub tick : State → Work
-tick k = everyTurn k (plus (k .now) (duration oneTick)) (tickTurn (plus (k .now) (duration oneTick)))
+-- At n, which becomes the present instant, each declared task has its turn.
+unfoldable pub arrive : State → Instant → Work
+arrive k n = everyTurn k n (tickTurn n)
+
+-- Where TI and SL arrive: one tick later, or at the next event.
+unfoldable pub arrival : Mark → State → Instant
+arrival m k = cond (is m SL) (instantOr (k .now) (nextEvent k)) (plus (k .now) (duration oneTick))
 
 -- ---- all sorts
 
@@ -137,7 +144,7 @@ workBy day TheRunner k c = changeIn day TheRunner k c
 workBy day (ListAsked w b) k c = changeIn day (ListAsked w b) k c
 workBy day (ListGiven w) k c = changeIn day (ListGiven w) k c
 workBy day AnInterrupt k c = interruptBy day (c .head .mark) k (c .head .number)
-workBy day EveryTask k c = tick k
+workBy day EveryTask k c = arrive k (arrival (c .head .mark) k)
 
 abbrev pub workOf : ℕ → State → Call → Work
 workOf day k c = workBy day (sortOf (c .head .mark)) k c

@@ -7,15 +7,15 @@ use mathlib.Core.List.{List, [], _∷_, _++_}
 use Prim.Native.Nat.{ℕ, suc, _+_, _<_, _≤_}
 use lib.ListN.{length}
 use lib.Dec.{eqb}
-use Rattle.calendar.specs.Limits.{tick, lastInstant}
-use Rattle.calendar.specs.Times.{duration, plus}
+use Rattle.calendar.specs.Limits.{lastInstant}
+use Rattle.calendar.specs.Times.{duration}
 use Rattle.calendar.specs.Dues.{firstDue}
 use Rattle.calendar.specs.declared.Instant.{Instant}
 use Rattle.calendar.specs.declared.Moment.the-variants.{At}
 use Rattle.layout.specs.Marks.{is}
 use Rattle.layout.specs.declared.Call.{Call}
 use Rattle.layout.specs.declared.Head.{Head}
-use Rattle.layout.specs.declared.Mark.the-variants.{PR, CO, RE, TG, TI}
+use Rattle.layout.specs.declared.Mark.the-variants.{PR, CO, RE, TG, TI, SL}
 use Rattle.record.specs.Refusals.{scheduled, onInterrupt}
 use Rattle.record.specs.Reading.{accepted, callWith, opened}
 use Rattle.record.specs.declared.Read.{Read}
@@ -34,6 +34,7 @@ use Rattle.machine.specs.State.{mostTasks, taskAt, enabledAt}
 use Rattle.machine.specs.Running.{runner}
 use Rattle.machine.specs.Serving.{Served, serve}
 use Rattle.machine.specs.Test.{valid, kernelRefusal}
+use Rattle.machine.specs.Calls.{arrival}
 use Rattle.machine.specs.Step.{step}
 use Rattle.machine.specs.Log.{AllOctets, final, log}
 use Rattle.machine.specs.Invariants.{IsDay, Passes}
@@ -119,7 +120,7 @@ isRunner Idle i = false
 isRunner (Runs j) i = eqb j i
 
 -- An accepted call that touches the continuation of task i: CONTINUE on a schedule or PREVENT that names it, RESUME on a
--- schedule while it runs, TRIGGER of its enabled interrupt, or the tick to its instant.
+-- schedule while it runs, TRIGGER of its enabled interrupt, or the tick or sleep to its instant.
 unfoldable pub touches : State → Call → ℕ → Bool
 touches k c i =
     let h = c .head in
@@ -129,7 +130,7 @@ touches k c i =
     || (is m PR && eqb (h .number) i)
     || (is m RE && scheduled (h .kind) && isRunner (runner k) i)
     || (is m TG && enabledAt k (h .number) && listens (h .number) a)
-    || (is m TI && falls (plus (k .now) (duration tick)) a)
+    || ((is m TI || is m SL) && falls (arrival m k) a)
 
 -- What was opened is such a call.
 abbrev pub touchesBy : State → Read → List ℕ → ℕ → Bool

@@ -23,6 +23,7 @@ pub mod Invariants
 pub mod Beyond
 pub mod Scripts
 pub mod Quiet
+pub mod Sleeping
 pub mod Continuing
 pub mod OnePass
 pub mod Turns

@@ -21,6 +21,7 @@ use Rattle.machine.specs.declared.Stepped.{Stepped}
 use Rattle.machine.specs.Sets.{Set, members, noSets}
 use Rattle.machine.specs.State.{taskAt, placeAt}
 use Rattle.machine.specs.Running.{mostPlaces, urgency, mostUrgent, runner}
+use Rattle.machine.specs.NextEvent.{fileOf}
 use Rattle.machine.specs.Granting.{servable}
 use Rattle.machine.specs.Serving.{Served, nextServed}
 use Rattle.machine.specs.Test.{valid, kernelRefusal}
@@ -98,10 +99,11 @@ UntestedIsRefused =
     → step day k s
     ≡ record { state = k; answer = record { number = 1; running = Idle; sets = noSets } }
 
--- One that passes it with another task on file than the rule gives is refused with 16 whatever the bytes, and no task runs.
+-- One that passes it with another task or next event on file than the rules give is refused with 16 whatever the bytes,
+-- and no task runs.
 abbrev pub MisfiledIsRefused : Type 0
 MisfiledIsRefused =
-    (day : ℕ) (k : State) (s : List ℕ) → valid day k ≡ true → k .file .running ≢ runner k
+    (day : ℕ) (k : State) (s : List ℕ) → valid day k ≡ true → k .file ≢ fileOf k
     → step day k s
     ≡ record { state = k; answer = record { number = 16; running = Idle; sets = noSets } }
 
@@ -114,28 +116,29 @@ abbrev pub TurnedAwayForGood : Type 0
 TurnedAwayForGood =
     (day n : ℕ) (k : State) → kernelRefusal day k ≡ n → n ≢ 0 → (rs : List (List ℕ)) → TurnedAway day n k rs
 
--- Refusals are numbered 1 to 16, and 1 and 16 are for no other ground.
+-- Refusals are numbered 1 to 17, and 1 and 16 are for no other ground.
 pub record Numbered (day : ℕ) (k : State) (n : ℕ) : Type 0 where
-  pub most : n ≤ 16
+  pub most : n ≤ 17
   pub first : n ≡ 1 → valid day k ≡ false
-  pub second : n ≡ 16 → (valid day k ≡ true) × (k .file .running ≢ runner k)
+  pub second : n ≡ 16 → (valid day k ≡ true) × (k .file ≢ fileOf k)
 
 abbrev pub RefusalsAreNumbered : Type 0
 RefusalsAreNumbered = (day : ℕ) (k : State) (s : List ℕ) → Numbered day k (step day k s .answer .number)
 
--- ---- the running task on file. Proved in proofs/Filed.antt.
+-- ---- what is on file. Proved in proofs/Filed.antt.
 
--- After every step that isn't refused with 1 or 16, the rule's task is on file, whatever the kernel was and the bytes.
+-- After every step that isn't refused with 1 or 16, the running task and the next event of the rules are on file, whatever
+-- the kernel was and the bytes.
 abbrev pub StepFiles : Type 0
 StepFiles =
     (day : ℕ) (k : State) (s : List ℕ) → step day k s .answer .number ≢ 1 → step day k s .answer .number ≢ 16
-    → step day k s .state .file .running ≡ runner (step day k s .state)
+    → step day k s .state .file ≡ fileOf (step day k s .state)
 
 -- The same for a call or declaration that was read.
 abbrev pub CarryFiles : Type 0
 CarryFiles =
     (day : ℕ) (k : State) (c : Call) → carry day k c .answer .number ≢ 1 → carry day k c .answer .number ≢ 16
-    → carry day k c .state .file .running ≡ runner (carry day k c .state)
+    → carry day k c .state .file ≡ fileOf (carry day k c .state)
 
 -- The task on file of a kernel that is refused with neither is the first of its declared tasks that are runnable.
 abbrev pub FiledIsFirst : Type 0

@@ -1,10 +1,12 @@
--- Refusals 2 to 15, first ground first (document 01, "Refusals, in checking order").
+-- Refusals 2 to 15 and 17, first ground first (document 01, "Refusals, in checking order").
 use mathlib.Core.Bool.{Bool, true, not, _&&_, _||_}
 use mathlib.Core.List.{List}
 use Prim.Native.Nat.{ℕ}
 use lib.Dec.{ltb, eqb}
 use Rattle.calendar.specs.Limits.{lastInstant}
+use Rattle.calendar.specs.Moments.{comesBy}
 use Rattle.calendar.specs.declared.Instant.{Instant}
+use Rattle.calendar.specs.declared.Moment.{Moment}
 use Rattle.layout.specs.Marks.{is}
 use Rattle.record.specs.Refusals.{onInterrupt, named, unless, before, shape, times}
 use Rattle.record.specs.Reading.{callWith, opened, orRefused, numberOf}
@@ -12,7 +14,7 @@ use Rattle.record.specs.declared.Read.{Read}
 use Rattle.record.specs.declared.Read.the-variants.{Refused, Accepted}
 use Rattle.record.specs.declared.Reading.{Reading}
 use Rattle.layout.specs.declared.Mark.{Mark}
-use Rattle.layout.specs.declared.Mark.the-variants.{DT, DS, DB, IT, AC, TE, SU, CO, TI}
+use Rattle.layout.specs.declared.Mark.the-variants.{DT, DS, DB, IT, AC, TE, SU, CO, TI, SL}
 use Rattle.layout.specs.declared.Call.{Call}
 use Rattle.layout.specs.declared.Head.{Head}
 use Rattle.lock.specs.Locks.{waiting, every, taken}
@@ -28,6 +30,7 @@ use Rattle.machine.specs.declared.Sort.{Sort}
 use Rattle.machine.specs.declared.Sort.the-variants.{Declaration, OneTask, TheRunner, ListAsked, ListGiven, AnInterrupt, EveryTask}
 use Rattle.machine.specs.State.{mostTasks, mostSemaphores, mostBolts, mostInterrupts, taskAt, countOf}
 use Rattle.machine.specs.Running.{runner, someone}
+use Rattle.machine.specs.NextEvent.{nextEvent}
 use Rattle.machine.specs.Sorts.{sortOf, declares, needsRunner, givenKind, placeOf}
 
 -- ---- 2, 5 and 7: what the counts and the first accepted call decide
@@ -82,7 +85,7 @@ admitted day n begun s = admittedIf day n begun (opened s .answer) (opened s)
 abbrev pub byteRefusal : ℕ → Counts → Bool → List ℕ → ℕ
 byteRefusal day n begun s = numberOf (admitted day n begun s .answer)
 
--- ---- 8 to 15: what the state decides
+-- ---- 8 to 15 and 17: what the state decides
 
 -- A list that can't be given back: RL, or FR and LV.
 abbrev pub unreturnable : Wait → ℕ
@@ -95,9 +98,10 @@ unreturnable Enter = 14
 abbrev pub isContinue : Mark → Head → Bool
 isContinue m h = is m CO && eqb (h .kind) 0
 
--- 8 to 15, or 0, with the running task, the task that the call is about, the locks and the present instant.
-unfoldable pub refusalBy : Mark → Call → Running → Task → Locks → Instant → ℕ
-refusalBy m c r t l n =
+-- 8 to 15, 17, or 0, with the running task, the task that the call is about, the locks, the present instant and the
+-- next event.
+unfoldable pub refusalBy : Mark → Call → Running → Task → Locks → Instant → Moment → ℕ
+refusalBy m c r t l n e =
     let w = givenKind (sortOf m) in
     unless (not (needsRunner (sortOf m)) || someone r) 8
     (unless (not (is m AC && eqb (c .head .kind) 0) || not (t .alive)) 9
@@ -105,8 +109,9 @@ refusalBy m c r t l n =
     (unless (not (is m SU) || not (suspended (t .hold))) 11
     (unless (not (isContinue m (c .head)) || not (unheld (t .hold))) 12
     (unless (not (waiting w) || every (taken w l) (named c)) (unreturnable w)
-    (unless (not (is m TI) || ltb (n .0) lastInstant) 15 0))))))
+    (unless (not (is m TI) || ltb (n .0) lastInstant) 15
+    (unless (not (is m SL) || comesBy lastInstant e) 17 0)))))))
 
 abbrev pub stateRefusal : Mark → State → Call → ℕ
 stateRefusal m k c =
-    refusalBy m c (runner k) (taskAt (k .tasks) (placeOf (sortOf m) (c .head) (runner k))) (k .locks) (k .now)
+    refusalBy m c (runner k) (taskAt (k .tasks) (placeOf (sortOf m) (c .head) (runner k))) (k .locks) (k .now) (nextEvent k)

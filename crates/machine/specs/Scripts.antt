@@ -5,7 +5,7 @@ use lib.ListN.{length, replicate}
 use Rattle.calendar.specs.Limits.{hour}
 use Rattle.layout.specs.Fields.{bytesOf}
 use Rattle.layout.specs.declared.Mark.{Mark}
-use Rattle.layout.specs.declared.Mark.the-variants.{DT, DS, DB, IT, DC, AC, TE, SU, PR, CO, EN, RE, RQ, RL, TR, RS, FR, ET, LV, TG, EI, TI}
+use Rattle.layout.specs.declared.Mark.the-variants.{DT, DS, DB, IT, DC, AC, TE, SU, PR, CO, EN, RE, RQ, RL, TR, RS, FR, ET, LV, TG, EI, TI, SL}
 
 -- n times the same. It is shut, so that a row of a million records is never written out.
 unfoldable pub row {ℓ} : {A : Type ℓ} → ℕ → A → List A
@@ -103,6 +103,10 @@ trigger i = plain TG i 0 [] 0
 
 abbrev pub oneTick : List ℕ
 oneTick = plain TI 0 0 [] 0
+
+-- To the next event.
+abbrev pub sleep : List ℕ
+sleep = plain SL 0 0 [] 0
 
 -- ---- with a start
 

@@ -5,6 +5,7 @@ use Prim.Native.Nat.{ℕ}
 use lib.ListN.{getD, replicate}
 use Rattle.calendar.specs.Times.{instant}
 use Rattle.calendar.specs.declared.Instant.{Instant}
+use Rattle.calendar.specs.declared.Moment.the-variants.{Never}
 use Rattle.lock.specs.Locks.{mostLocks, emptyBolt}
 use Rattle.lock.specs.declared.Wait.{Wait}
 use Rattle.lock.specs.declared.Wait.the-variants.{Nothing, Request, Reserve, Enter}
@@ -16,7 +17,7 @@ use Rattle.task.specs.declared.Hold.the-variants.{Unheld}
 use Rattle.task.specs.declared.Kept.the-variants.{Empty}
 use Rattle.task.specs.declared.Task.{Task}
 use Rattle.machine.specs.declared.Counts.{Counts}
-use Rattle.machine.specs.declared.Running.{Running}
+use Rattle.machine.specs.declared.OnFile.{OnFile}
 use Rattle.machine.specs.declared.Running.the-variants.{Idle}
 use Rattle.machine.specs.declared.State.{State}
 
@@ -89,7 +90,7 @@ nothing =
       clock = 0;
       now = instant 0;
       begun = false;
-      file = record { running = Idle };
+      file = record { running = Idle; next = Never };
     }
 
 -- ---- a kernel with some parts changed
@@ -150,9 +151,9 @@ withClock t k =
       file = k .file;
     }
 
--- r is on file as the running task.
-abbrev pub withRunning : Running → State → State
-withRunning r k =
+-- f is on file.
+abbrev pub withFile : OnFile → State → State
+withFile f k =
     record {
       tasks = k .tasks;
       places = k .places;
@@ -162,7 +163,7 @@ withRunning r k =
       clock = k .clock;
       now = k .now;
       begun = k .begun;
-      file = record { running = r };
+      file = f;
     }
 
 -- The kernel after an accepted call, at instant n.

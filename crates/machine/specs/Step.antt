@@ -12,8 +12,9 @@ use Rattle.machine.specs.declared.Running.the-variants.{Idle}
 use Rattle.machine.specs.declared.Answer.{Answer}
 use Rattle.machine.specs.declared.Stepped.{Stepped}
 use Rattle.machine.specs.Sets.{noSets, withGranted}
-use Rattle.machine.specs.State.{withState, withPlaces, withRunning, begunAt}
-use Rattle.machine.specs.Running.{runningOf, runner}
+use Rattle.machine.specs.State.{withState, withPlaces, withFile, begunAt}
+use Rattle.machine.specs.Running.{runner}
+use Rattle.machine.specs.NextEvent.{fileOf}
 use Rattle.machine.specs.Work.{Work}
 use Rattle.machine.specs.Serving.{serve}
 use Rattle.machine.specs.Places.{event, moved}
@@ -31,21 +32,21 @@ unfoldable pub refuse : State → ℕ → Running → Stepped
 refuse k n r = record { state = k; answer = plainAnswer n r }
 
 -- Every accepted call ends so: the waiting tasks are served, those with an event go to the end of the order, and the
--- running task is found and put on file.
+-- running task and the next event are found and put on file.
 unfoldable pub finish : State → Work → Stepped
 finish k w =
     let n = k .counts .tasks in
     let p = serve n (k .places) n (record { tasks = w .tasks; locks = w .locks; granted = w .sets .granted }) in
     let ps = moved n (event (k .tasks) (p .tasks) (w .sets .started)) (k .places) in
-    let r = runningOf n ps (p .tasks) in
+    let z = begunAt (w .now) (withPlaces ps (withState (p .tasks) (p .locks) (w .enabled) k)) in
     record {
-      state = begunAt (w .now) (withRunning r (withPlaces ps (withState (p .tasks) (p .locks) (w .enabled) k)));
-      answer = record { number = 0; running = r; sets = withGranted (p .granted) (w .sets) };
+      state = withFile (fileOf z) z;
+      answer = record { number = 0; running = runner z; sets = withGranted (p .granted) (w .sets) };
     }
 
--- An accepted declaration leaves the kernel d. The task that ran runs on, and is put on file.
+-- An accepted declaration leaves the kernel d. The task that ran runs on, and what was to come next is.
 unfoldable pub declared : State → State → Stepped
-declared k d = record { state = withRunning (runner k) d; answer = plainAnswer 0 (runner k) }
+declared k d = record { state = withFile (fileOf k) d; answer = plainAnswer 0 (runner k) }
 
 abbrev pub orRefuse : State → ℕ → Stepped → Stepped
 orRefuse k zero s = s

@@ -1,9 +1,10 @@
--- Refusals 1 and 16: the kernel test, and the running task on file. Places beyond the counts aren't looked at.
+-- Refusals 1 and 16: the kernel test, and what is on file. Places beyond the counts aren't looked at.
 use mathlib.Core.Bool.{Bool, true, not, _&&_, _||_}
 use mathlib.Core.List.{List}
 use Prim.Native.Nat.{ℕ}
 use lib.Dec.{leb, ltb, eqb}
 use Rattle.calendar.specs.Limits.{longestDuration, lastInstant, mostInstant, isTimeOfDay, isDuration, isPeriod}
+use Rattle.calendar.specs.Moments.{sameMoment}
 use Rattle.calendar.specs.declared.Instant.{Instant}
 use Rattle.calendar.specs.declared.End.{End}
 use Rattle.calendar.specs.declared.End.the-variants.{Open, Until, During}
@@ -22,10 +23,12 @@ use Rattle.task.specs.declared.Kept.{Kept}
 use Rattle.task.specs.declared.Kept.the-variants.{Empty, Back}
 use Rattle.task.specs.declared.Task.{Task}
 use Rattle.machine.specs.declared.Counts.{Counts}
+use Rattle.machine.specs.declared.OnFile.{OnFile}
 use Rattle.machine.specs.declared.State.{State}
 use Rattle.machine.specs.Sums.{allBelow}
 use Rattle.machine.specs.State.{mostTasks, mostSemaphores, mostBolts, mostInterrupts, taskAt, placeAt, countOf}
-use Rattle.machine.specs.Running.{sameRunning, runner}
+use Rattle.machine.specs.Running.{sameRunning}
+use Rattle.machine.specs.NextEvent.{fileOf}
 use Rattle.machine.specs.Granting.{servable}
 
 -- ---- limits
@@ -131,9 +134,12 @@ valid day k =
     && placesOk (k .counts .tasks) (k .places)
     && nobodyServable k
 
--- The running task on file is the one that the rule gives.
+-- The running task and the next event on file are those that the rules give.
+abbrev pub sameFile : OnFile → OnFile → Bool
+sameFile f g = sameRunning (f .running) (g .running) && sameMoment (f .next) (g .next)
+
 unfoldable pub filed : State → Bool
-filed k = sameRunning (k .file .running) (runner k)
+filed k = sameFile (k .file) (fileOf k)
 
 -- 1, 16 or 0: what the kernel handed in decides.
 unfoldable pub kernelRefusal : ℕ → State → ℕ

@@ -1,5 +1,6 @@
 // The rack kernel's state, and what a step hands back.
 use calendar::Instant;
+use calendar::Moment;
 use lock::Locks;
 use lock::Wait;
 use task::Marks;
@@ -26,7 +27,7 @@ pub enum Sort {
     ListGiven(Wait),
     // TG, EI, XI
     AnInterrupt,
-    // TI
+    // TI, SL
     EveryTask,
 }
 
@@ -68,6 +69,8 @@ pub enum Running {
 // What a kernel has on file, so that nobody needs to look for it.
 pub struct OnFile {
     pub running: Running,
+    // When something next comes to a task without another call.
+    pub next: Moment,
 }
 
 // Sets of tasks, in which task i counts 2^i.

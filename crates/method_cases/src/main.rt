@@ -144,6 +144,7 @@ fn other_places() {
     k.places[1] = 0;
     let file = OnFile {
         running: Running::Runs(1),
+        next: Moment::Never,
     };
     k.file = file;
     show(Kernel { state: k }.tick());

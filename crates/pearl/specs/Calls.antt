@@ -3,7 +3,7 @@ use mathlib.Core.List.{List, [], _∷_}
 use Prim.Native.Nat.{ℕ}
 use Rattle.layout.specs.declared.Call.{Call}
 use Rattle.layout.specs.declared.Mark.{Mark}
-use Rattle.layout.specs.declared.Mark.the-variants.{DT, DS, DB, IT, DC, AC, TE, SU, PR, CO, EN, RE, RQ, RL, TR, RS, FR, ET, LV, TG, EI, XI, TI}
+use Rattle.layout.specs.declared.Mark.the-variants.{DT, DS, DB, IT, DC, AC, TE, SU, PR, CO, EN, RE, RQ, RL, TR, RS, FR, ET, LV, TG, EI, XI, TI, SL}
 use Rattle.pearl.specs.declared.StartCondition.{StartCondition}
 
 -- No number in any of the four places of a list.
@@ -130,3 +130,6 @@ disableCall interrupt = plainCall XI interrupt 0 0 noList 0
 
 abbrev pub tickCall : Call
 tickCall = plainCall TI 0 0 0 noList 0
+
+abbrev pub sleepCall : Call
+sleepCall = plainCall SL 0 0 0 noList 0

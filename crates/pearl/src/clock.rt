@@ -1,6 +1,6 @@
-// Interrupts and ticks: TRIGGER, ENABLE, DISABLE and one tick of the clock.
+// Interrupts and time: TRIGGER, ENABLE, DISABLE, one tick of the clock, and sleep to the next event.
 ghost use mathlib.Core.Path.{_≡_};
-ghost use Rattle.pearl.specs.Calls.{triggerCall, enableCall, disableCall, tickCall};
+ghost use Rattle.pearl.specs.Calls.{triggerCall, enableCall, disableCall, tickCall, sleepCall};
 use crate::fields::NO_LIST;
 use crate::fields::plain;
 use layout::Call;
@@ -28,4 +28,11 @@ pub fn tick() -> Call
     ensures { λ r. ⌜ r ≡ tickCall ⌝ }
 {
     plain(Mark::TI, 0, 0, 0, NO_LIST, 0)
+}
+
+// To the next event.
+pub fn sleep() -> Call
+    ensures { λ r. ⌜ r ≡ sleepCall ⌝ }
+{
+    plain(Mark::SL, 0, 0, 0, NO_LIST, 0)
 }

@@ -21,7 +21,7 @@ use Rattle.machine.specs.Step.{refuse, step}
 use Rattle.machine.specs.Test.{kernelRefusal}
 use Rattle.machine.specs.declared.Running.{Running}
 use Rattle.machine.specs.declared.State.{State}
-use Rattle.machine.proofs.Filing.{taken-filed}
+use Rattle.machine.proofs.Filing.{taken-runner}
 use Rattle.machine.proofs.NextEvent.{next-is-next}
 use Rattle.machine.proofs.Quiet.{quiet-step}
 use Rattle.quiet_ticks.specs.Stirring.{isTick}
@@ -35,7 +35,7 @@ pub quiet-tick :
 unfolding refuse
 quiet-tick day k room v q l m =
     rw m
-    (ap (λ (r : Running). refuse (begunAt (plus (k .now) (duration 1)) k) 0 r) (taken-filed day k v)
+    (ap (λ (r : Running). refuse (begunAt (plus (k .now) (duration 1)) k) 0 r) (taken-runner day k v)
     ∙ sym (quiet-step day k room v (next-is-next k .quiet 1 q) l))
 
 -- ---- the bytes of a tick

@@ -3,11 +3,15 @@ use mathlib.Core.Path.{_≡_}
 use mathlib.Core.Bool.{Bool, true, false, not, _&&_, _||_}
 use Prim.Native.Nat.{ℕ, _≤_}
 use lib.Dec.{ltb, eqb}
+use Rattle.calendar.specs.Limits.{lastInstant}
+use Rattle.calendar.specs.Moments.{comesBy}
+use Rattle.calendar.specs.declared.Instant.{Instant}
+use Rattle.calendar.specs.declared.Moment.{Moment}
 use Rattle.layout.specs.Marks.{is}
 use Rattle.layout.specs.declared.Call.{Call}
 use Rattle.layout.specs.declared.Head.{Head}
 use Rattle.layout.specs.declared.Mark.{Mark}
-use Rattle.layout.specs.declared.Mark.the-variants.{AC, TE, SU}
+use Rattle.layout.specs.declared.Mark.the-variants.{AC, TE, SU, TI, SL}
 use Rattle.lists.specs.Lists.{distinct}
 use Rattle.record.specs.Refusals.{mostNumbers, named, unless}
 use Rattle.lock.specs.Locks.{mostLocks, every}
@@ -30,6 +34,11 @@ namedRefusal m h t =
     (unless (not (is m TE || is m SU || isContinue m h) || t .alive) 10
     (unless (not (is m SU) || not (suspended (t .hold))) 11
     (unless (not (isContinue m h) || not (unheld (t .hold))) 12 0)))
+
+-- 15, 17, or 0: the refusals of TI and SL, with the present instant and the next event.
+unfoldable pub timeRefusal : Mark → Instant → Moment → ℕ
+timeRefusal m n e =
+    unless (not (is m TI) || ltb (n .0) lastInstant) 15 (unless (not (is m SL) || comesBy lastInstant e) 17 0)
 
 -- A call of the sort is about one task and the locks.
 abbrev pub aboutOne : Sort → Bool

@@ -21,7 +21,7 @@ pub fn sort_of(mark: Mark) -> Sort
         Mark::ET => Sort::ListAsked(Wait::Enter, true),
         Mark::LV => Sort::ListGiven(Wait::Enter),
         Mark::TG | Mark::EI | Mark::XI => Sort::AnInterrupt,
-        Mark::TI => Sort::EveryTask,
+        Mark::TI | Mark::SL => Sort::EveryTask,
     }
 }
 

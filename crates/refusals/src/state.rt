@@ -1,12 +1,13 @@
-// Refusals 8 to 15: what the state decides.
+// Refusals 8 to 15 and 17: what the state decides.
 ghost use mathlib.Core.Path.{_≡_};
 ghost use Rattle.record.specs.Refusals.{unless};
 ghost use Rattle.record.specs.Reading.{callWith};
 ghost use Rattle.machine.specs.Sorts.{sortOf};
 ghost use Rattle.machine.specs.Refusals.{unreturnable, refusalBy};
-ghost use Rattle.refusals.specs.Inner.{InOrder, namedRefusal};
+ghost use Rattle.refusals.specs.Inner.{InOrder, namedRefusal, timeRefusal};
 use calendar::Instant;
 use calendar::LAST_INSTANT;
+use calendar::Moment;
 use layout::Head;
 use layout::Mark;
 use layout::Numbers;
@@ -56,7 +57,19 @@ fn unreturnable(w: Wait) -> u8
     }
 }
 
-// The first of refusals 8 to 15, or 0, with the runner, the task that the call is about, the locks and the instant.
+// 15, 17, or 0: TI at the last instant, and SL with nothing to come by it.
+pub fn time_refusal(mark: Mark, now: Instant, next: Moment) -> u8
+    ensures { λ n. ⌜ n ≡ timeRefusal mark now next ⌝ }
+{
+    match mark {
+        Mark::TI => unless(now.0 < LAST_INSTANT, 15, 0),
+        Mark::SL => unless(next.is_by(LAST_INSTANT), 17, 0),
+        _ => 0,
+    }
+}
+
+// The first of refusals 8 to 15 and 17, or 0, with the runner, the task that the call is about, the locks, the instant
+// and the next event.
 pub fn state_refusal(
     sort: Sort,
     h: Head,
@@ -65,11 +78,13 @@ pub fn state_refusal(
     t: Task,
     locks: Locks,
     now: Instant,
+    next: Moment,
 ) -> u8
     requires { ⌜ sort ≡ sortOf (h .mark) ⌝ }
     requires { ⌜ InOrder (callWith h list) ⌝ }
-    ensures { λ n. ⌜ n ≡ refusalBy (h .mark) (callWith h list) r t locks now ⌝ }
+    ensures { λ n. ⌜ n ≡ refusalBy (h .mark) (callWith h list) r t locks now next ⌝ }
 {
+    let mark = h.mark;
     let n = h.len as usize;
     match sort {
         Sort::OneTask => named_refusal(h, t),
@@ -84,7 +99,7 @@ pub fn state_refusal(
                 0,
             ),
         ),
-        Sort::EveryTask => unless(now.0 < LAST_INSTANT, 15, 0),
+        Sort::EveryTask => time_refusal(mark, now, next),
         Sort::Declaration => 0,
         Sort::AnInterrupt => 0,
     }

@@ -16,7 +16,7 @@ use Rattle.layout.specs.declared.Mark.the-variants.{TG}
 use Rattle.lock.proofs.Bools.{byBool, both}
 use Rattle.task.specs.declared.Task.{Task}
 use Rattle.task.specs.declared.Turn.{Turn}
-use Rattle.machine.specs.Calls.{changeOf, trigger, interruptBy, tick, workBy}
+use Rattle.machine.specs.Calls.{changeOf, trigger, interruptBy, arrive, workBy}
 use Rattle.machine.specs.Sorts.{sortOf, runnerAt}
 use Rattle.machine.specs.Refusals.{declaredBy, declaredIn}
 use Rattle.machine.specs.Running.{runner}
@@ -90,7 +90,7 @@ module _ (k : State) where
     does day c s i = changeOf (k .counts .tasks) (k .tasks) day s c (k .clock) (k .now) (taskAt (k .tasks) i) (k .locks)
 
     sized-work : (day : ℕ) (c : Call) (s : Sort) → declaredBy s (k .counts) c ≡ true → Sized (workBy day s k c .sets)
-    unfolding workBy declaredBy tick
+    unfolding workBy declaredBy arrive
     sized-work day c Declaration e = sized-none (k .enabled)
     sized-work day c OneTask e =
         sized-one (c .head .number) (does day c OneTask (c .head .number)) (omega (arith, ltb-true (c .head .number) (k .counts .tasks) (both (ltb (c .head .number) (k .counts .tasks)) _ e .0)))
@@ -116,7 +116,7 @@ module _ (k : State) where
               (λ p j l e h. unfold grantTo in put-lt 32 j (p .granted) (omega arith) h) (k .counts .tasks) _ (s Granted));
         }
 
-    in-plain : (n : ℕ) → n ≤ 15 → InTypes (refuse k n (runner k) .answer)
+    in-plain : (n : ℕ) → n ≤ 17 → InTypes (refuse k n (runner k) .answer)
     unfolding refuse
     in-plain n h =
         record {
@@ -145,5 +145,5 @@ in-idle k n h =
 pub answer-in-types : (day : ℕ) (k : State) (s : List ℕ) → InTypes (step day k s .answer)
 answer-in-types day k =
     step-cases day k (λ t. InTypes (t .answer)) (λ v. in-idle k 1 (omega arith)) (λ v m. in-idle k 16 (omega arith))
-    (λ v n a b. in-plain k (tested day k (taken-valid day k v) .fits .tasks) n b)
+    (λ v n a b. in-plain k (tested day k (taken-valid day k v) .fits .tasks) n (b .most))
     (λ v c e. in-out k (tested day k (taken-valid day k v) .fits .tasks) day c (passed day k c e .formal .known))

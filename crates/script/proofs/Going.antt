@@ -3,7 +3,7 @@ use mathlib.Core.Path.{_≡_, refl, sym, ap, _∙_}
 use mathlib.Core.Logic.{_≢_}
 use mathlib.Core.Bool.{Bool, true, false, _&&_}
 use mathlib.Core.List.{List, [], _++_, append-nil}
-use Prim.Native.Nat.{ℕ, suc, _+_, _-_, _≤_, _<_, min}
+use Prim.Native.Nat.{ℕ, _+_, _-_, _≤_, _<_, min}
 use native.Mathlib.Omega.{arith}
 use lib.Dec.{leb, ltb}
 use lib.ListN.{length, take, drop, length-take, List·getD-eq-default}
@@ -17,8 +17,7 @@ use Rattle.layout.specs.Fields.{recordLength, Octets}
 use Rattle.lock.proofs.Bools.{byBool, both}
 use Rattle.machine.specs.Invariants.{IsDay, Tables}
 use Rattle.machine.specs.NextEvent.{nextEvent}
-use Rattle.machine.specs.Quiet.{Quiet}
-use Rattle.machine.specs.State.{mostTasks, begunAt}
+use Rattle.machine.specs.State.{begunAt}
 use Rattle.machine.specs.Step.{plainAnswer, refuse, step}
 use Rattle.machine.specs.Test.{kernelRefusal}
 use Rattle.machine.specs.declared.State.{State}
@@ -26,8 +25,8 @@ use Rattle.machine.specs.declared.Running.{Running}
 use Rattle.machine.specs.declared.Running.the-variants.{Idle}
 use Rattle.machine.specs.declared.Stepped.{Stepped}
 use Rattle.machine.proofs.NextEvent.{next-is-next}
-use Rattle.machine.proofs.Filing.{taken-filed}
-use Rattle.machine.proofs.Quiet.{quiet-step, still-taken}
+use Rattle.machine.proofs.Filing.{taken-runner, taken-next}
+use Rattle.machine.proofs.Quiet.{quiet-step, still-taken, next-after}
 use Rattle.machine.proofs.Invariants.{step-passes}
 use Rattle.machine.proofs.Facts.{StateOk, ok-of-passes}
 use Rattle.changes.proofs.CallLaws.{step-away}
@@ -59,17 +58,8 @@ octets-part s at to o i =
     rw (List·getD-eq-default (take (to - at) (drop at s)) 0 {n = i} (omega (arith, length-take (to - at) (drop at s), ltb-false i (to - at) e)))
     (omega arith))
 
--- Ticks to instants before q are quiet and not refused.
-abbrev pub Still : ℕ → State → Type 0
-Still q k = (d : ℕ) → k .now .0 + d < q → (k .now .0 + d ≤ lastInstant) × Quiet d k
-
-pub still-next : (k : State) {q : ℕ} → q ≡ upTo (lastInstant + 1) (nextEvent k) → Still q k
-still-next k e d l =
-    let p = up-to-before (lastInstant + 1) (nextEvent k) (k .now .0 + d) (rw e at l) in
-    (omega arith, next-is-next k .quiet d (p .1))
-
 -- The text so far, and what is carried on from here gives the whole.
-pub record Going (bytes before : List ℕ) (start : State) (number : ℕ) (buffer : List ℕ) (k : State) (quiet at fill : ℕ) : Type 0 where
+pub record Going (bytes before : List ℕ) (start : State) (number : ℕ) (buffer : List ℕ) (k : State) (at fill : ℕ) : Type 0 where
   pub text : List ℕ
   pub wrote : Wrote before 0 text buffer fill
   pub room : fill ≤ length before
@@ -78,15 +68,14 @@ pub record Going (bytes before : List ℕ) (start : State) (number : ℕ) (buffe
   pub octets : Octets bytes
   pub tables : Tables k
   pub tested : number ≡ kernelRefusal day k
-  pub still : number ≡ 0 → Still quiet k
   pub rest : carried day (goingOn start) (records bytes) (length before) ≡ afterText text (carried day (goingOn k) (records (drop at bytes)) (length before - fill))
 
 -- The loop's test: there is a next record, and room for a longest line.
 abbrev pub goes : List ℕ → List ℕ → ℕ → ℕ → Bool
 goes bytes buffer at fill = ltb at (length bytes) && leb longestLine (length buffer - fill)
 
-module _ {bytes before : List ℕ} {start : State} {number : ℕ} {buffer : List ℕ} {k : State} {quiet at fill : ℕ}
-    (g : Going bytes before start number buffer k quiet at fill) where
+module _ {bytes before : List ℕ} {start : State} {number : ℕ} {buffer : List ℕ} {k : State} {at fill : ℕ}
+    (g : Going bytes before start number buffer k at fill) where
   pub good : number ≡ 0 → kernelRefusal day k ≡ 0
   good o = sym (g .tested) ∙ o
 
@@ -95,9 +84,6 @@ module _ {bytes before : List ℕ} {start : State} {number : ℕ} {buffer : List
 
   pub early : number ≡ 0 → k .now .0 ≤ lastInstant
   early o = ok-of o .now-ok
-
-  pub few : number ≡ 0 → k .counts .tasks ≤ mostTasks
-  few o = ok-of o .counts-ok .tasks
 
   -- What is left has no room, or there is nothing left.
   told : (full : Bool) → carried day (goingOn k) (records (drop at bytes)) (length before - fill) ≡ record { script = goingOn k; text = []; left = records (drop at bytes) }
@@ -134,11 +120,10 @@ module _ {bytes before : List ℕ} {start : State} {number : ℕ} {buffer : List
   module _ (to : ℕ) (on : goes bytes buffer at fill ≡ true) (e : to ≡ min (at + recordLength) (length bytes))
       {buffer′ : List ℕ} {fill′ : ℕ} where
     -- One record more, with the machine's step z on it and z's line.
-    turned : {quiet′ : ℕ} (z : Stepped) → z ≡ step day k (part bytes at to)
+    turned : (z : Stepped) → z ≡ step day k (part bytes at to)
         → Wrote buffer fill (shown (says z) (z .answer)) buffer′ fill′ → fill′ ≤ fill + longestLine → length buffer′ ≡ length buffer
-        → Tables (z .state) → number ≡ kernelRefusal day (z .state) → (number ≡ 0 → Still quiet′ (z .state))
-        → Going bytes before start number buffer′ (z .state) quiet′ to fill′
-    turned z m w n b s v q =
+        → Tables (z .state) → number ≡ kernelRefusal day (z .state) → Going bytes before start number buffer′ (z .state) to fill′
+    turned z m w n b s v =
         let t : List ℕ = shown (says z) (z .answer) in
         let p : printed (part bytes at to) (step day k (part bytes at to) .answer) ≡ t = unfold printed in rw (says-line day k (part bytes at to), ← m) in
         let d : length before - fill - length t ≡ length before - fill′ = omega (arith, w .place) in
@@ -151,7 +136,6 @@ module _ {bytes before : List ℕ} {start : State} {number : ℕ} {buffer : List
           octets = g .octets;
           tables = s;
           tested = v;
-          still = q;
           rest =
               g .rest
               ∙ rw (record-at bytes at to (ahead on) e, carried-go day k (part bytes at to) (records (drop to bytes)) (length before - fill) (omega (arith, g .long, fits on)), p, ← m, d)
@@ -160,44 +144,44 @@ module _ {bytes before : List ℕ} {start : State} {number : ℕ} {buffer : List
 
     -- A kernel turned away stays.
     pub refused : number ≢ 0 → Wrote buffer fill (line (plainAnswer number Idle)) buffer′ fill′ → fill′ ≤ fill + longestLine → length buffer′ ≡ length buffer
-        → Going bytes before start number buffer′ k quiet to fill′
+        → Going bytes before start number buffer′ k to fill′
     unfolding refuse
     refused o w n b =
         turned (record { state = k; answer = plainAnswer number Idle }) (step-away day k (part bytes at to) (g .tested) o) (rw (ne-eqb number 0 o) w) n b
-        (g .tables) (g .tested) (g .still)
+        (g .tables) (g .tested)
 
     module _ (o : number ≡ 0) where
-      -- Before the next event a tick only moves the present.
-      pub moved : (q : ℕ) → Still q k → isTick (part bytes at to) ≡ true → k .now .0 + 1 < q
+      -- Before the next event on file a tick only moves the present.
+      pub moved : {q : ℕ} → q ≡ upTo (lastInstant + 1) (k .file .next) → isTick (part bytes at to) ≡ true → k .now .0 + 1 < q
           → Wrote buffer fill (line (plainAnswer 0 (k .file .running))) buffer′ fill′ → fill′ ≤ fill + longestLine → length buffer′ ≡ length buffer
-          → Going bytes before start number buffer′ (begunAt (plus (k .now) (duration 1)) k) q to fill′
-      moved q s t j w n b =
-          let i = s 1 j .0 in
+          → Going bytes before start number buffer′ (begunAt (plus (k .now) (duration 1)) k) to fill′
+      moved e t j w n b =
+          let f = e ∙ ap (upTo (lastInstant + 1)) (taken-next day k (good o)) in
+          let p = up-to-before (lastInstant + 1) (nextEvent k) (k .now .0 + 1) (rw f at j) in
+          let quiet = next-is-next k .quiet 1 (p .1) in
           let z : Stepped = record { state = begunAt (plus (k .now) (duration 1)) k; answer = plainAnswer 0 (k .file .running) } in
           let m : z ≡ step day k (part bytes at to) =
           rw (tick-bytes (part bytes at to) t)
-          (ap (λ (x : Running). record { state = begunAt (plus (k .now) (duration 1)) k; answer = plainAnswer 0 x }) (taken-filed day k (good o))
-          ∙ sym (quiet-step day k (g .tables .tasks) (good o) (s 1 j .1) (omega arith))) in
-          let v = still-taken day k (plus (k .now) (duration 1)) (omega arith) (omega arith) (good o) in
+          (ap (λ (x : Running). record { state = begunAt (plus (k .now) (duration 1)) k; answer = plainAnswer 0 x }) (taken-runner day k (good o))
+          ∙ sym (quiet-step day k (g .tables .tasks) (good o) quiet (omega (arith, p .0)))) in
+          let v = still-taken day k (plus (k .now) (duration 1)) (omega (arith, p .0)) (omega (arith, p .0)) (next-after k quiet) (good o) in
           turned z m w n b
           (record { tasks = g .tables .tasks; places = g .tables .places; semaphores = g .tables .semaphores; bolts = g .tables .bolts; enabled = g .tables .enabled })
           (o ∙ sym v)
-          (λ _ d l. let p = s (suc d) (omega arith) in (omega arith, λ c m x a b. p .1 c m x (omega arith) (omega arith)))
 
       -- Any other record.
       pub stepped : (z : Stepped) → z ≡ step day k (part bytes at to)
           → Wrote buffer fill (shown (says z) (z .answer)) buffer′ fill′ → fill′ ≤ fill + longestLine → length buffer′ ≡ length buffer
-          → Going bytes before start number buffer′ (z .state) 0 to fill′
+          → Going bytes before start number buffer′ (z .state) to fill′
       stepped z m w n b =
           let p = step-passes day isDay k (record { tables = g .tables; tested = good o }) (part bytes at to) (octets-part bytes at to (g .octets)) in
           turned z m w n b (rw m (p .tables)) (o ∙ sym (rw m (p .tested)))
-          (λ _ d l. absurd (omega arith))
 
 -- Where the loop begins.
-pub started : (bytes before : List ℕ) (k : State) (number : ℕ) (q : ℕ) → Octets bytes → Tables k → number ≡ kernelRefusal day k
-    → (kernelRefusal day k ≡ 0 → Still q k) → Going bytes before k number before k q 0 0
+pub started : (bytes before : List ℕ) (k : State) (number : ℕ) → Octets bytes → Tables k → number ≡ kernelRefusal day k
+    → Going bytes before k number before k 0 0
 unfolding placed
-started bytes before k number q o t v s =
+started bytes before k number o t v =
     let d : length before - 0 ≡ length before = omega arith in
     record {
       text = [];
@@ -208,6 +192,5 @@ started bytes before k number q o t v s =
       octets = o;
       tables = t;
       tested = v;
-      still = λ e. s (sym v ∙ e);
       rest = rw d;
     }

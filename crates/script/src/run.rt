@@ -13,7 +13,6 @@ use crate::Stand;
 use calendar::Duration;
 use calendar::LAST_INSTANT;
 use calls::step::step_on;
-use coming::next_event;
 use kernel::Kernel;
 use layout::RECORD_LENGTH;
 use lines::line_at;
@@ -60,19 +59,17 @@ fn line_if(show: bool, a: Answer, out: &mut [u8], at: usize) -> usize
     at
 }
 
-// The script over bytes, with as many lines as there is room for in out. A tick to an instant before quiet only moves
-// the present; quiet is the next event, found again at the first tick after another record, or 0 while it isn't known.
+// The script over bytes, with as many lines as there is room for in out. A tick to an instant before the next event, which
+// is on file, only moves the present.
 pub fn run(script: Script, bytes: &[u8], out: &mut [u8]) -> Ran
     ensures { λ r. ⌜ Runs day script (now (bytes .entry)) (now (out .entry)) (now (out .exit)) r ⌝ }
 {
     let mut k = script.kernel.state;
     let v = survey(k);
     let file = k.file;
-    let stored = file.running;
-    let found = v.runner;
-    let refusal = kernel_refusal(v.ok, stored, found);
+    let runner = v.runner;
     let next = v.next;
-    let mut quiet = next.up_to(LAST_INSTANT + 1);
+    let refusal = kernel_refusal(v.ok, file, runner, next);
     let mut at = 0;
     let mut fill = 0;
     while (at < bytes.len()) & (LONGEST_LINE <= out.len() - fill) {
@@ -84,12 +81,9 @@ pub fn run(script: Script, bytes: &[u8], out: &mut [u8]) -> Ran
             continue;
         }
         let now = k.now;
-        let tick = is_tick(rec);
-        if tick & (quiet <= now.0 + 1) {
-            quiet = next_event(k).up_to(LAST_INSTANT + 1);
-        }
-        if tick & (now.0 + 1 < quiet) {
-            let file = k.file;
+        let file = k.file;
+        let next = file.next;
+        if is_tick(rec) & (now.0 + 1 < next.up_to(LAST_INSTANT + 1)) {
             let r = file.running;
             k = begun_at(k, now.plus(Duration(1)));
             fill = line_at(plain(0, r), out, fill);
@@ -98,7 +92,6 @@ pub fn run(script: Script, bytes: &[u8], out: &mut [u8]) -> Ran
         let z = step_on(k, rec);
         let a = z.answer;
         k = z.state;
-        quiet = 0;
         fill = line_if((a.number != 0) | k.begun, a, out, fill);
     }
     let kernel = Kernel { state: k };

@@ -1,5 +1,5 @@
 -- How a call ends, with or without serving.
-use mathlib.Core.Path.{_≡_, refl, _∙_}
+use mathlib.Core.Path.{_≡_, refl, sym, _∙_}
 use mathlib.Core.Bool.{Bool, true, false, not, _||_}
 use mathlib.Core.List.{List}
 use Prim.Native.Nat.{ℕ, _≤_, _<_}
@@ -7,18 +7,23 @@ use native.Mathlib.Nat.{min-eq-left}
 use native.Mathlib.Omega.{arith}
 use lib.Bits.{bitOr}
 use lib.ListN.{length}
+use Rattle.calendar.specs.declared.Moment.{Moment}
 use Rattle.task.specs.State.{runnable}
 use Rattle.task.specs.declared.Task.{Task}
 use Rattle.machine.specs.Places.{event, moved}
 use Rattle.machine.specs.Running.{mostUrgent, runningOf}
 use Rattle.machine.specs.Serving.{nextServed}
 use Rattle.machine.specs.Sets.{holds, withGranted}
-use Rattle.machine.specs.State.{mostTasks, withPlaces, withRunning, begunAt}
+use Rattle.machine.specs.State.{mostTasks, withPlaces, withFile, begunAt}
 use Rattle.machine.specs.Step.{finish}
 use Rattle.machine.specs.Test.{placesOk}
 use Rattle.machine.specs.declared.Running.the-variants.{Idle}
 use Rattle.machine.specs.declared.Sets.{Sets}
 use Rattle.machine.specs.declared.State.{State}
+use Rattle.machine.specs.declared.Stepped.{Stepped}
+use Rattle.machine.specs.NextEvent.{nextAmong}
+use Rattle.machine.specs.Work.{Work}
+use Rattle.machine.proofs.Sleeping.{finish-next}
 use Rattle.machine.proofs.Places.{apart-of, moved-alike, event-runnable}
 use Rattle.machine.proofs.Urgency.{scan-same, scan-passing}
 use Rattle.urgency.specs.Leads.{whose, urgencyThen}
@@ -31,7 +36,7 @@ use Rattle.order.proofs.Behind.{then-urgent}
 use Rattle.order.proofs.EventLaws.{holds-or}
 use Rattle.waiters.specs.Served.{served, withServed, servedOf}
 use Rattle.waiters.proofs.ServeLaws.{served-idle}
-use Rattle.serving.specs.Ends.{Rounded, asBefore, workHere, answerOf}
+use Rattle.serving.specs.Ends.{Rounded, asBefore, workHere, nextFiled, answerOf}
 use Rattle.serving.specs.declared.ends.Round.{Round}
 
 -- Of the runnable tasks those with an event.
@@ -89,10 +94,14 @@ pub settled-ends : (k : State) (m : Sets) → k .counts .tasks ≤ mostTasks →
     → (now : State) (granted : ℕ) (lead : Lead) (after : Standing) → Settled k (m .granted) before (m .started) now granted lead after
     → (events : ℕ) → ((us : List Task) → Stands (k .counts .tasks) us after → (i : ℕ) → i < k .counts .tasks → holds i events ≡ event ts us (m .started) i)
     → (places : List ℕ) → places ≡ moved (k .counts .tasks) (λ i. holds i events) (now .places)
-    → record { state = begunAt (now .now) (withRunning (whose lead) (withPlaces places now)); answer = answerOf 0 (whose lead) (withGranted granted m) }
-    ≡ finish (asBefore ts k) (workHere k m)
+    → (next : Moment)
+    → record {
+      state = begunAt (now .now) (withFile (record { running = whose lead; next = next }) (withPlaces places now));
+      answer = answerOf 0 (whose lead) (withGranted granted m);
+    }
+    ≡ nextFiled next (finish (asBefore ts k) (workHere k m))
 unfolding finish servedOf runningOf
-settled-ends k m fits ok long ts before b now granted lead after s events ev places p =
+settled-ends k m fits ok long ts before b now granted lead after s events ev places p next =
     let n = k .counts .tasks in
     let us = servedOf k (m .granted) .tasks in
     let e = event ts us (m .started) in
@@ -100,3 +109,11 @@ settled-ends k m fits ok long ts before b now granted lead after s events ev pla
     let r = s .leads ∙ then-urgent n (k .places) e (lateBy before (m .started)) us (canRun us) (apart-of n (k .places) ok) (omega (arith, long)) fits
     (λ i l x. event-runnable ts us (m .started) i x ∙ rw (b .runnable i l)) in
     rw (o, r, s .state, s .all)
+
+-- With what it has on file already, a step stays.
+pub next-filed : (s : Stepped) {m : Moment} → m ≡ s .state .file .next → nextFiled m s ≡ s
+next-filed s e = rw e
+
+-- So it does with what the call's own work leaves to come.
+pub next-of-work : (k : State) (w : Work) {m : Moment} → m ≡ nextAmong (w .now) (k .counts .tasks) (w .tasks) → nextFiled m (finish k w) ≡ finish k w
+next-of-work k w e = next-filed (finish k w) (e ∙ sym (finish-next k w))

@@ -10,11 +10,9 @@ use lib.Bits.{bitOr, or-shifted-r}
 use lib.ListN.{length, take, drop, set, length-map}
 use lib.Seq.{length-take-le, set-getD}
 use lib.Dec.{eqb}
-use borrow.Author.Tests.{lt-ltb, le-ltb, eqb-true, not-false}
-use Rattle.calendar.specs.Limits.{lastInstant}
+use borrow.Author.Tests.{eqb-true, not-false}
 use Rattle.calendar.specs.declared.Instant.{Instant}
-use Rattle.layout.specs.declared.Mark.the-variants.{TI}
-use Rattle.layout.specs.declared.Call.{Call}
+use Rattle.calendar.specs.declared.Moment.{Moment}
 use Rattle.lock.specs.Locks.{bit, waiting}
 use Rattle.lock.proofs.Bools.{and-both, byBool, byEq, contra}
 use Rattle.task.specs.State.{noTask, unheld, isKept}
@@ -24,14 +22,14 @@ use Rattle.task.specs.declared.Turn.{Turn}
 use Rattle.task.proofs.Fairness.{rest-facts}
 use Rattle.task.proofs.Waits.{SameWait, NoNewWait, no-wait-tick, tick-keeps-wait}
 use Rattle.machine.specs.Sets.{setOf, mark, eachSet, noSets}
-use Rattle.machine.specs.State.{mostTasks, taskAt, enabledAt, withState, begunAt, withPlaces, withRunning}
+use Rattle.machine.specs.State.{mostTasks, taskAt, enabledAt, withState, begunAt, withPlaces, withFile}
 use Rattle.machine.specs.Work.{onlyEnabled, turns, everyTurn}
-use Rattle.machine.specs.Running.{runner, runningOf}
+use Rattle.machine.specs.Running.{runningOf}
+use Rattle.machine.specs.NextEvent.{nextAmong}
 use Rattle.machine.specs.Serving.{nextServed}
 use Rattle.machine.specs.Test.{valid}
-use Rattle.machine.specs.Refusals.{refusalBy, stateRefusal}
 use Rattle.machine.specs.Calls.{trigger}
-use Rattle.machine.specs.Step.{refuse, finish, orRefuse}
+use Rattle.machine.specs.Step.{finish}
 use Rattle.machine.specs.declared.Counts.{Counts}
 use Rattle.machine.specs.declared.State.{State}
 use Rattle.machine.specs.declared.Stepped.{Stepped}
@@ -50,7 +48,8 @@ use Rattle.survey.proofs.TestLaws.{wait-of}
 use Rattle.survey.specs.Looks.{waitsOk}
 use Rattle.waiters.specs.Served.{served, servedOf}
 use Rattle.waiters.proofs.ServeLaws.{served-idle}
-use Rattle.serving.specs.Ends.{workHere, answerOf, asBefore}
+use Rattle.serving.specs.Ends.{workHere, nextFiled, answerOf, asBefore}
+use Rattle.serving.proofs.EndLaws.{next-of-work}
 use Rattle.serving.proofs.TurnCases.{sound}
 
 -- ---- a set with one more place
@@ -177,9 +176,10 @@ abbrev pub everyDone : State → Instant → (Task → Turn) → State
 everyDone k n f = withState (everyTurn k n f .tasks) (k .locks) (k .enabled) k
 
 pub every-finish : (k : State) (f : Task → Turn) {next : State} {s : Sets}
-    → next ≡ everyDone k (k .now) f → s ≡ everyTurn k (k .now) f .sets → finish (asBefore (k .tasks) next) (workHere next s) ≡ finish k (everyTurn k (k .now) f)
+    → next ≡ everyDone k (k .now) f → s ≡ everyTurn k (k .now) f .sets → {m : Moment} → m ≡ nextAmong (k .now) (k .counts .tasks) (next .tasks)
+    → nextFiled m (finish (asBefore (k .tasks) next) (workHere next s)) ≡ finish k (everyTurn k (k .now) f)
 unfolding finish everyTurn
-every-finish k f a b = rw (a, b)
+every-finish k f {next} {s} a b e = next-of-work (asBefore (k .tasks) next) (workHere next s) (e ∙ rw a) ∙ rw (a, b)
 
 module _ (day : ℕ) (k : State) (v : valid day k ≡ true) where
   -- Turns that keep the limits of a task keep the limits of the waits.
@@ -257,30 +257,22 @@ abbrev pub everyEvent : State → Instant → (Task → Turn) → ℕ → Bool
 everyEvent k n f = event (k .tasks) (everyTurn k n f .tasks) (everyTurn k n f .sets .started)
 
 -- The call ends at instant n where nobody is to be served once every task has had its turn.
-pub every-unserved : (k : State) (n : Instant) (f : Task → Turn) {next now : State} {s : Sets} {ps : List ℕ} {r : Running}
+pub every-unserved : (k : State) (n : Instant) (f : Task → Turn) {next now : State} {s : Sets} {ps : List ℕ} {r : Running} {m : Moment}
     → next ≡ everyDone k n f → s ≡ everyTurn k n f .sets → nextServed (k .counts .tasks) (k .places) (served (everyDone k n f) 0) ≡ Idle
     → ps ≡ moved (k .counts .tasks) (everyEvent k n f) (k .places) → r ≡ runningOf (k .counts .tasks) ps (everyTurn k n f .tasks)
-    → now ≡ withPlaces ps next → record { state = begunAt n (withRunning r now); answer = answerOf 0 r s } ≡ finish k (everyTurn k n f)
+    → now ≡ withPlaces ps next → m ≡ nextAmong n (k .counts .tasks) (next .tasks)
+    → record { state = begunAt n (withFile (record { running = r; next = m }) now); answer = answerOf 0 r s } ≡ finish k (everyTurn k n f)
 unfolding finish servedOf everyTurn
-every-unserved k n f a b h o e q = rw (q, a, b, e, o, served-idle (everyDone k n f) (everyTurn k n f .sets .granted) h)
+every-unserved k n f a b h o e q x = rw (q, x, a, b, e, o, served-idle (everyDone k n f) (everyTurn k n f .sets .granted) h)
 
 -- Or where those who wait have been served at the instant before.
-pub every-served : (k : State) (n : Instant) (f : Task → Turn) {next : State} {s : Sets} {z : Stepped} {next′ : State} {s′ : Sets} {r : Running}
-    → next ≡ everyDone k n f → s ≡ everyTurn k n f .sets → z ≡ finish (asBefore (k .tasks) next) (workHere next s)
-    → next′ ≡ z .state → s′ ≡ z .answer .sets → r ≡ z .answer .running
-    → record { state = begunAt n (withRunning r next′); answer = answerOf 0 r s′ } ≡ finish k (everyTurn k n f)
+pub every-served : (k : State) (n : Instant) (f : Task → Turn) {next : State} {s : Sets} {z : Stepped} {next′ : State} {s′ : Sets} {r : Running} {m : Moment}
+    → next ≡ everyDone k n f → s ≡ everyTurn k n f .sets → z ≡ nextFiled m (finish (asBefore (k .tasks) next) (workHere next s))
+    → next′ ≡ z .state → s′ ≡ z .answer .sets → r ≡ z .answer .running → m ≡ nextAmong n (k .counts .tasks) (next .tasks)
+    → record { state = begunAt n (withFile (record { running = r; next = m }) next′); answer = answerOf 0 r s′ } ≡ finish k (everyTurn k n f)
 unfolding finish everyTurn
-every-served k n f a b e x y q = rw (x, y, q, e, a, b)
-
--- ---- a tick at the last instant is refused
-
-pub tick-early : (k : State) (c : Call) (s : Stepped) → k .now .0 < lastInstant → s ≡ orRefuse k (stateRefusal TI k c) s
-unfolding refusalBy
-tick-early k c s l = rw (lt-ltb _ _ l)
-
-pub tick-late : (k : State) (c : Call) (s : Stepped) → lastInstant ≤ k .now .0 → refuse k 15 (runner k) ≡ orRefuse k (stateRefusal TI k c) s
-unfolding refusalBy
-tick-late k c s l = rw (le-ltb _ _ l)
+every-served k n f {m = m} a b e x y q w =
+    rw (x, y, q, e, a, b) (next-of-work k (everyTurn k n f) (w ∙ rw a))
 
 -- ---- a disabled interrupt changes nothing
 

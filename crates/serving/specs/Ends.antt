@@ -2,13 +2,15 @@
 use mathlib.Core.Path.{_≡_}
 use mathlib.Core.List.{List}
 use Prim.Native.Nat.{ℕ}
+use Rattle.calendar.specs.declared.Moment.{Moment}
 use Rattle.task.specs.declared.Task.{Task}
-use Rattle.machine.specs.State.{withState}
+use Rattle.machine.specs.State.{withState, withFile}
 use Rattle.machine.specs.Work.{Work}
 use Rattle.machine.specs.declared.Answer.{Answer}
 use Rattle.machine.specs.declared.Running.{Running}
 use Rattle.machine.specs.declared.State.{State}
 use Rattle.machine.specs.declared.Sets.{Sets}
+use Rattle.machine.specs.declared.Stepped.{Stepped}
 use Rattle.urgency.specs.Scanned.{Scanned}
 use Rattle.waiters.specs.Served.{withServed, servedOf}
 use Rattle.serving.specs.declared.ends.Round.{Round}
@@ -33,6 +35,10 @@ workHere k s =
       enabled = k .enabled;
       sets = s;
     }
+
+-- A step with m as the next event on file.
+abbrev pub nextFiled : Moment → Stepped → Stepped
+nextFiled m s = record { state = withFile (record { running = s .state .file .running; next = m }) (s .state); answer = s .answer }
 
 abbrev pub answerOf : ℕ → Running → Sets → Answer
 answerOf n r s = record { number = n; running = r; sets = s }

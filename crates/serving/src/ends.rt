@@ -1,17 +1,19 @@
-// What ends every accepted call; of ticks, those after which somebody may have to be served.
+// What ends every accepted call; of ticks and sleeps, those after which somebody may have to be served.
 ghost use mathlib.Core.Path.{_≡_};
 ghost use mathlib.Core.Bool.{true};
 ghost use mathlib.Core.List.{List};
 ghost use Rattle.task.specs.declared.Task.{Task};
 ghost use Rattle.machine.specs.Sets.{noSets};
 ghost use Rattle.machine.specs.State.{begunAt};
+ghost use Rattle.machine.specs.NextEvent.{nextEvent};
 ghost use Rattle.machine.specs.Test.{placesOk};
 ghost use Rattle.machine.specs.Step.{plainAnswer, finish, refuse};
 ghost use Rattle.machine.specs.Work.{onlyEnabled};
 ghost use Rattle.survey.specs.Looks.{waitsOk};
 ghost use Rattle.sets.specs.Standing.{Turned};
-ghost use Rattle.serving.specs.Ends.{Rounded, asBefore, workHere, answerOf};
+ghost use Rattle.serving.specs.Ends.{Rounded, asBefore, workHere, nextFiled, answerOf};
 use calendar::Instant;
+use calendar::Moment;
 use lock::is_waiting;
 use machine::Answer;
 use machine::OnFile;
@@ -99,13 +101,13 @@ fn served_and_scanned(k: State, granted: u32, late: u32) -> Round
     }
 }
 
-// So an accepted call ends. The kernel has had its work done, the sets say whom it marked, and turned for whom it has
-// changed whether he is runnable or waits. Where nobody waits, there is nobody to serve. All calls end at one place: a
-// second one would cost each of them a copy of the kernel.
-pub fn finished(mut k: State, m: Sets, turned: Standing) -> Stepped
+// So an accepted call ends, with next put on file. The kernel has had its work done, the sets say whom it marked, and
+// turned for whom it has changed whether he is runnable or waits. Where nobody waits, there is nobody to serve. All
+// calls end at one place: a second one would cost each of them a copy of the kernel.
+pub fn finished(mut k: State, m: Sets, turned: Standing, next: Moment) -> Stepped
     requires { ⌜ waitsOk k ≡ true ⌝ }
     requires { ⌜ placesOk (k .counts .tasks) (k .places) ≡ true ⌝ }
-    ensures { λ r. ⌜ ((ts : List Task) → Turned (k .counts .tasks) ts (k .tasks) turned → r ≡ finish (asBefore ts k) (workHere k m)) ⌝ }
+    ensures { λ r. ⌜ ((ts : List Task) → Turned (k .counts .tasks) ts (k .tasks) turned → r ≡ nextFiled next (finish (asBefore ts k) (workHere k m))) ⌝ }
 {
     let counts = k.counts;
     let n = in_table(counts.tasks);
@@ -145,7 +147,7 @@ pub fn finished(mut k: State, m: Sets, turned: Standing) -> Stepped
     let places = moved(k.places, counts.tasks, events_of(before, after, m.started));
     k.places = places;
     let running = lead.who();
-    let file = OnFile { running };
+    let file = OnFile { running, next };
     k.file = file;
     Stepped {
         state: begun_at(k, k.now),
@@ -155,11 +157,14 @@ pub fn finished(mut k: State, m: Sets, turned: Standing) -> Stepped
 
 // A call without effect ends.
 pub fn done(k: State) -> Stepped
+    requires { ⌜ k .file .next ≡ nextEvent k ⌝ }
     requires { ⌜ waitsOk k ≡ true ⌝ }
     requires { ⌜ placesOk (k .counts .tasks) (k .places) ≡ true ⌝ }
     ensures { λ s. ⌜ s ≡ finish k (onlyEnabled k (k .enabled)) ⌝ }
 {
-    finished(k, no_sets(), nobody_turned())
+    let file = k.file;
+    let next = file.next;
+    finished(k, no_sets(), nobody_turned(), next)
 }
 
 // An answer with empty sets.

@@ -1,10 +1,11 @@
-// What the programs with cases share: the line of a reply, that of the running task, and a start condition.
+// What the programs with cases share: the line of a reply, of the running task and of a number, and a start condition.
 ghost use mathlib.Core.Path.{_≡_};
 use kernel::Kernel;
 use kernel::Reply;
 use kernel::StartCondition;
 use lines::line_at;
 use machine::Answer;
+use machine::Running;
 use serving::ends::plain;
 
 fn print_line(a: Answer) {
@@ -29,6 +30,11 @@ pub fn show(r: Reply) -> Kernel
 pub fn show_running(kernel: Kernel) {
     let running = kernel.running();
     print_line(plain(0, running));
+}
+
+// Prints a number as the line of an answer with nothing else in it.
+pub fn show_number(number: u8) {
+    print_line(plain(number, Running::Idle));
 }
 
 // A start of a kind with its first time, on interrupt 0, once.

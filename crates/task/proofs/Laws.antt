@@ -1,31 +1,19 @@
 -- Laws of the definitions: turns that change nothing, and a priority given.
 use mathlib.Core.Path.{_≡_, refl, sym, _∙_}
-use mathlib.Core.Bool.{false, cond, _&&_, _||_, or-false}
+use mathlib.Core.Bool.{false, _||_, or-false}
 use Prim.Native.Nat.{ℕ, zero, suc}
-use lib.Dec.{eqb}
-use Rattle.calendar.specs.Moments.{isAt}
 use Rattle.calendar.specs.declared.Instant.{Instant}
-use Rattle.calendar.specs.declared.Moment.the-variants.{Never, At}
 use Rattle.lock.proofs.Bools.{neither}
-use Rattle.schedule.specs.declared.Plan.{Plan}
-use Rattle.schedule.specs.declared.Plan.the-variants.{None, Clock, Armed, Triggered}
-use Rattle.schedule.specs.declared.Alarm.{Alarm}
-use Rattle.schedule.specs.Alarms.{pending, falls, listens}
+use Rattle.schedule.specs.Alarms.{falls, listens}
+use Rattle.schedule.proofs.Coming.{falls-at-next}
 use Rattle.task.specs.declared.Task.{Task}
-use Rattle.task.specs.Coming.{comes}
 use Rattle.task.specs.Continuations.{orElse, continueAt, calledBy}
 use Rattle.task.specs.Turns.{unmarked, delayEnds, wake, fallTurn, startTurn, triggerTurn}
-use Rattle.task.specs.Promises.{QuietTurn}
-
-falls-then : (n : Instant) (a : Alarm) (p : Plan) → isAt n (cond (pending p) (At (a .next)) Never) ≡ (pending p && eqb (a .next .0) (n .0))
-falls-then n a None = refl
-falls-then n a Clock = refl
-falls-then n a Armed = refl
-falls-then n a Triggered = refl
+use Rattle.task.specs.Promises.{ComesIsDue, QuietTurn}
 
 -- What comes to a task, by its parts.
-pub comes-parts : (n : Instant) (t : Task) → comes n t ≡ (delayEnds n (t .hold) || (falls n (t .schedule .alarm) || falls n (t .continuation)))
-comes-parts n t = rw (falls-then n (t .schedule .alarm) (t .schedule .alarm .plan), falls-then n (t .continuation) (t .continuation .plan), or-false)
+pub comes-parts : ComesIsDue
+comes-parts n t = rw (falls-at-next n (t .schedule .alarm), falls-at-next n (t .continuation), or-false)
 
 pub still : QuietTurn
 unfolding wake fallTurn continueAt

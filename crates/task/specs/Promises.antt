@@ -4,13 +4,14 @@ use mathlib.Core.Bool.{Bool, true, false, not, _&&_, _||_}
 use Prim.Native.Nat.{ℕ, _+_}
 use Rattle.calendar.specs.declared.Instant.{Instant}
 use Rattle.lock.specs.Locks.{bit, waiting}
+use Rattle.schedule.specs.Alarms.{falls}
 use Rattle.schedule.specs.declared.Alarm.{Alarm}
 use Rattle.schedule.specs.declared.Schedule.{Schedule}
 use Rattle.task.specs.declared.Task.{Task}
 use Rattle.task.specs.declared.Turn.{Turn}
 use Rattle.task.specs.State.{isKept, restOk, wanted}
 use Rattle.task.specs.Coming.{comes}
-use Rattle.task.specs.Turns.{unmarked, dueTurn, endTurn, preventTurn, suspendTurn, continueTurn, resumeTurn, tickTurn, scheduleTurn, triggerTurn, laterTurn, restTurn}
+use Rattle.task.specs.Turns.{unmarked, delayEnds, dueTurn, endTurn, preventTurn, suspendTurn, continueTurn, resumeTurn, tickTurn, scheduleTurn, triggerTurn, laterTurn, restTurn}
 
 -- A turn is fair; p says whether it is that of a PREVENT.
 pub record Fair (p : Bool) (t : Task) (u : Turn) : Type 0 where
@@ -39,6 +40,12 @@ pub record TurnsAreFair : Type 0 where
   pub trigger : (day clock : ℕ) (n : Instant) (i : ℕ) (t : Task) → restOk t ≡ true → Fair false t (triggerTurn day clock n i t)
   pub later : (n : Instant) (a : Alarm) (p : ℕ) (r : Bool) (t : Task) → Fair false t (laterTurn n a p r t)
   pub rest : (n : Instant) (a : Alarm) (t : Task) → Fair false t (restTurn n a t)
+
+-- What comes to a task is what a tick acts on: its delay ends, its schedule falls due, or its continuation does.
+abbrev pub ComesIsDue : Type 0
+ComesIsDue =
+    (n : Instant) (t : Task)
+    → comes n t ≡ (delayEnds n (t .hold) || (falls n (t .schedule .alarm) || falls n (t .continuation)))
 
 -- A tick to an instant at which nothing comes leaves the task as it is.
 abbrev pub QuietTurn : Type 0

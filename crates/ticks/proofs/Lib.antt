@@ -2,3 +2,4 @@
 pub mod StirLaws
 pub mod TickRuns
 pub mod TickEnds
+pub mod TimeLaws

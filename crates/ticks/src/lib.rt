@@ -1,20 +1,29 @@
-// A tick, TI: every task has its turn.
+// Time passes, by TI and SL: every task has its turn.
 ghost use mathlib.Core.Path.{_≡_};
-ghost use mathlib.Core.Bool.{true, not, _&&_};
+ghost use mathlib.Core.Bool.{true, not, cond, _&&_};
 ghost use lib.Dec.{eqb};
-ghost use Rattle.calendar.specs.Limits.{day};
+ghost use Prim.Native.Nat.{_≤_};
+ghost use Rattle.calendar.specs.Limits.{day, lastInstant, tick};
+ghost use Rattle.calendar.specs.Times.{duration, plus};
+ghost use Rattle.calendar.specs.Moments.{instantOr};
 ghost use Rattle.lock.specs.Locks.{waiting};
 ghost use Rattle.machine.specs.Running.{runner};
+ghost use Rattle.machine.specs.NextEvent.{nextEvent};
 ghost use Rattle.machine.specs.Test.{valid};
+ghost use Rattle.machine.specs.Sorts.{sortOf};
+ghost use Rattle.machine.specs.declared.Sort.the-variants.{EveryTask};
 ghost use Rattle.machine.specs.Refusals.{stateRefusal};
-ghost use Rattle.machine.specs.Calls.{tick};
+ghost use Rattle.machine.specs.Calls.{arrive, arrival};
 ghost use Rattle.machine.specs.Step.{finish, orRefuse};
 ghost use Rattle.ticks.specs.Stirring.{mayCome};
-ghost use Rattle.layout.specs.declared.Mark.the-variants.{TI};
+ghost use Rattle.layout.specs.Marks.{is};
+ghost use Rattle.layout.specs.declared.Mark.the-variants.{SL};
 ghost use Rattle.layout.specs.declared.Call.{Call};
 use calendar::Duration;
 use calendar::Instant;
-use calendar::LAST_INSTANT;
+use calendar::Moment;
+use coming::next_event;
+use layout::Mark;
 use lock::Wait;
 use lock::is_waiting;
 use machine::OnFile;
@@ -22,6 +31,7 @@ use machine::Running;
 use machine::State;
 use machine::Stepped;
 use order::moved;
+use refusals::state::time_refusal;
 use serving::ends::answer_of;
 use serving::ends::answered;
 use serving::ends::begun_at;
@@ -53,21 +63,17 @@ fn is_altered(wait: Wait, before: u8, after: u8) -> bool
     is_waiting(wait) & (after != before)
 }
 
-// Each declared task's turn at a tick: those that something may come to; the others stay as they are. A task that can
+// At n each declared task has its turn: those that something may come to; the others stay as they are. A task that can
 // run keeps its priority, so the one that ran or one that had its turn runs. Those that a turn makes runnable have an
 // event, and no others, so they stand behind all of their priority. No turn begins or ends a wait, so somebody is to be
-// served only if one who waits has another priority. All ticks end at one place: a second one would cost each of them a
-// copy of the kernel.
-pub fn ticked(mut k: State, r: Running) -> Stepped
+// served only if one who waits has another priority. All of them end at one place: a second one would cost each a copy
+// of the kernel.
+fn arrived(mut k: State, r: Running, n: Instant) -> Stepped
     requires { ⌜ valid day k ≡ true ⌝ }
     requires { ⌜ r ≡ runner k ⌝ }
-    ensures { λ s. ⌜ ((c : Call) → s ≡ orRefuse k (stateRefusal TI k c) (finish k (tick k))) ⌝ }
+    requires { ⌜ n .0 ≤ lastInstant ⌝ }
+    ensures { λ s. ⌜ s ≡ finish k (arrive k n) ⌝ }
 {
-    let now = k.now;
-    if LAST_INSTANT <= now.0 {
-        return answered(k, 15, r);
-    }
-    let n = now.plus(Duration(1));
     let counts = k.counts;
     let most = counts.tasks as usize;
     let mut s = no_sets();
@@ -98,6 +104,7 @@ pub fn ticked(mut k: State, r: Running) -> Stepped
             lead = lead.against_if(runs, after.current, place_if(late, k.places[i]), i);
         }
     }
+    let next = next_event(k, n);
     let mut runner = lead.who();
     if altered {
         let z = finished(
@@ -107,6 +114,7 @@ pub fn ticked(mut k: State, r: Running) -> Stepped
                 runnable: turned,
                 waiting: 0,
             },
+            next,
         );
         let answer = z.answer;
         k = z.state;
@@ -116,10 +124,42 @@ pub fn ticked(mut k: State, r: Running) -> Stepped
         let places = moved(k.places, counts.tasks, turned);
         k.places = places;
     }
-    let file = OnFile { running: runner };
+    let file = OnFile {
+        running: runner,
+        next,
+    };
     k.file = file;
     Stepped {
         state: begun_at(k, n),
         answer: answer_of(0, runner, s),
     }
+}
+
+// Where TI and SL arrive: one tick later, or at the next event.
+fn arrival(mark: Mark, now: Instant, next: Moment) -> Instant
+    requires { ⌜ now .0 ≤ lastInstant ⌝ }
+    ensures { λ n. ⌜ n ≡ cond (is mark SL) (instantOr now next) (plus now (duration tick)) ⌝ }
+{
+    match mark {
+        Mark::SL => next.instant_or(now),
+        _ => now.plus(Duration(1)),
+    }
+}
+
+// TI or SL: refused, or each task has its turn at the instant that it arrives at.
+pub fn passed(k: State, mark: Mark, r: Running) -> Stepped
+    requires { ⌜ sortOf mark ≡ EveryTask ⌝ }
+    requires { ⌜ valid day k ≡ true ⌝ }
+    requires { ⌜ r ≡ runner k ⌝ }
+    requires { ⌜ k .file .next ≡ nextEvent k ⌝ }
+    ensures { λ s. ⌜ ((c : Call) → s ≡ orRefuse k (stateRefusal mark k c) (finish k (arrive k (arrival mark k)))) ⌝ }
+{
+    let now = k.now;
+    let file = k.file;
+    let next = file.next;
+    let number = time_refusal(mark, now, next);
+    if number != 0 {
+        return answered(k, number, r);
+    }
+    arrived(k, r, arrival(mark, now, next))
 }

@@ -1,8 +1,11 @@
-// The running task on file: whether it is the one that a scan found.
+// What is on file: whether it is what a scan found.
 ghost use mathlib.Core.Path.{_≡_};
 ghost use Rattle.record.specs.Refusals.{unless};
 ghost use Rattle.machine.specs.Running.{sameRunning};
+ghost use Rattle.machine.specs.Test.{sameFile};
 use crate::scan::is_someone;
+use calendar::Moment;
+use machine::OnFile;
 use machine::Running;
 
 // Whether two say the same: the same task, or none.
@@ -18,12 +21,17 @@ pub fn is_same(a: Running, b: Running) -> bool
     }
 }
 
-// 1 where the kernel test said no, 16 where another task is on file than the one found, else 0.
-pub fn kernel_refusal(ok: bool, stored: Running, found: Running) -> u8
-    ensures { λ r. ⌜ r ≡ unless ok 1 (unless (sameRunning stored found) 16 0) ⌝ }
+// 1 where the kernel test said no, 16 where another task or next event is on file than the one found, else 0.
+pub fn kernel_refusal(ok: bool, stored: OnFile, running: Running, next: Moment) -> u8
+    ensures { λ r. ⌜ r ≡ unless ok 1 (unless (sameFile stored (record { running = running; next = next })) 16 0) ⌝ }
 {
+    let task = stored.running;
+    let moment = stored.next;
     if !ok {
         return 1;
     }
-    if is_same(stored, found) { 0 } else { 16 }
+    if !is_same(task, running) {
+        return 16;
+    }
+    if moment.is_same(next) { 0 } else { 16 }
 }

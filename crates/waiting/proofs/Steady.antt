@@ -1,20 +1,18 @@
 -- A task that goes on living keeps its priority, but for a CONTINUE.
 use mathlib.Core.Path.{_≡_, refl, sym, ap, _∙_}
-use mathlib.Core.Bool.{Bool, true, false, not, _&&_, and-true, and-false}
+use mathlib.Core.Bool.{Bool, true, false, not, _&&_, _||_, and-true, and-false}
 use mathlib.Core.List.{List}
 use Prim.Native.Nat.{ℕ, _<_}
 use lib.Dec.{eqb}
 use lib.Seq.{getD-set-same, getD-set-other}
 use borrow.Author.Tests.{eq-eqb, not-true}
-use Rattle.calendar.specs.Limits.{tick as aTick}
-use Rattle.calendar.specs.Times.{duration, plus}
 use Rattle.calendar.specs.declared.Instant.{Instant}
 use Rattle.layout.specs.Fields.{Octets}
 use Rattle.layout.specs.Marks.{is}
 use Rattle.layout.specs.declared.Call.{Call}
 use Rattle.layout.specs.declared.Head.{Head}
 use Rattle.layout.specs.declared.Mark.{Mark}
-use Rattle.layout.specs.declared.Mark.the-variants.{AC, TE, SU, PR, CO, RE, TG, TI}
+use Rattle.layout.specs.declared.Mark.the-variants.{AC, TE, SU, PR, CO, RE, TG, TI, SL}
 use Rattle.record.specs.Refusals.{named}
 use Rattle.record.specs.Reading.{accepted, opened}
 use Rattle.record.specs.declared.Read.the-variants.{Accepted}
@@ -41,7 +39,7 @@ use Rattle.machine.specs.Test.{valid}
 use Rattle.machine.specs.Step.{finish, declared, step}
 use Rattle.machine.specs.Invariants.{IsDay, Passes}
 use Rattle.machine.specs.Activation.{alarmBy, scheduleOf, activateTurn, resumeBy}
-use Rattle.machine.specs.Calls.{namedTurn, runnerTurn, asks, changeOf, trigger, interruptBy, tick, workBy, workOf}
+use Rattle.machine.specs.Calls.{namedTurn, runnerTurn, asks, changeOf, trigger, interruptBy, arrive, arrival, workBy, workOf}
 use Rattle.machine.specs.declared.Change.{Change}
 use Rattle.machine.specs.declared.State.{State}
 use Rattle.machine.specs.declared.Sort.{Sort}
@@ -177,9 +175,9 @@ module _ (day : ℕ) (k : State) (v : valid day k ≡ true) (c : Call) (i : ℕ)
 
   -- The three parts of the test.
   parts : ((is m CO && eqb (c .head .number) i) ≡ false) × ((is m TG && enabledAt k (c .head .number) && listens (c .head .number) (t .continuation)) ≡ false)
-      × ((is m TI && falls (plus (k .now) (duration aTick)) (t .continuation)) ≡ false)
+      × (((is m TI || is m SL) && falls (arrival m k) (t .continuation)) ≡ false)
   parts =
-      let a = neither _ (is m TI && falls (plus (k .now) (duration aTick)) (t .continuation)) calm in
+      let a = neither _ ((is m TI || is m SL) && falls (arrival m k) (t .continuation)) calm in
       let b = neither (is m CO && eqb (c .head .number) i) (is m TG && enabledAt k (c .head .number) && listens (c .head .number) (t .continuation)) (a .0) in
       (b .0, b .1, a .1)
 
@@ -206,8 +204,8 @@ module _ (day : ℕ) (k : State) (v : valid day k ≡ true) (c : Call) (i : ℕ)
   work-steady (ListGiven w) q = unfold workBy changeOf in one-steady (runnerAt (runner k)) _ (λ z a e. refl)
   work-steady AnInterrupt q = interrupt-steady
   work-steady EveryTask q =
-      unfold workBy tick in every-steady (plus (k .now) (duration aTick)) (tickTurn (plus (k .now) (duration aTick)))
-      (tick-steady (plus (k .now) (duration aTick)) t (rw (tick-mark m q) at (parts .2)))
+      unfold workBy arrive in every-steady (arrival m k) (tickTurn (arrival m k))
+      (tick-steady (arrival m k) t (rw (tick-mark m q) at (parts .2)))
 
 -- ---- a step
 

@@ -1,24 +1,25 @@
 -- The next event among the tasks looked at.
 use borrow.Author.Needs.{needs}
 use mathlib.Core.Path.{_≡_, ap, _∙_}
-use Prim.Native.Nat.{_≤_, _-_}
+use Prim.Native.Nat.{ℕ, _≤_, _-_}
 use native.Mathlib.Nat.{le-antisymm}
 use Rattle.coming.specs.Next.{momentOf}
-use Rattle.coming.proofs.NextLaws.{nextAmong, among-none, among-more, among-all}
+use Rattle.machine.specs.NextEvent.{nextAmong}
+use Rattle.coming.proofs.NextLaws.{among-none, among-more}
 use Rattle.coming.proofs.next_event.Statement.{statement}
 use Rattle.coming.proofs.next_event.Tie as tie
 
 abbrev Inv-loop : tie.InvT-loop
-Inv-loop k n now soonest₀ i₀ soonest i = (i ≤ n) × (momentOf soonest ≡ nextAmong k i)
+Inv-loop now k n soonest₀ i₀ soonest i = (i ≤ n) × (momentOf soonest ≡ nextAmong now i (k .tasks))
 
 abbrev μ-loop : tie.MeasureT-loop
-μ-loop k n now soonest₀ i₀ soonest i = n - i
+μ-loop now k n soonest₀ i₀ soonest i = n - i
 
 cast-n : tie.Need-cast-n Inv-loop μ-loop
 cast-n c = search needs
 
 loop-holds : tie.Need-loop-holds Inv-loop μ-loop
-loop-holds c = (search needs, among-none (c .before .before .before .args .t1))
+loop-holds c = (let a = c .before .before .args in (search needs, among-none (a .now) (a .t1 .tasks)))
 
 mul-t : tie.Need-mul-t Inv-loop μ-loop
 mul-t c = search needs
@@ -43,9 +44,10 @@ loop-less c = search needs
 
 loop-again : tie.Need-loop-again Inv-loop μ-loop
 loop-again c =
-    let l = c .before .before .before .before .before .before .before .loop in
-    let k = c .before .before .before .before .before .before .before .before .before .before .before .args .t1 in
-    (search needs, among-more k (l .i) (l .soonest) (c .sooner-end .result) (l .inv .1) (rw (← c .before .before .sooner-due .ensures, ← c .before .sooner-due2 .ensures) (c .sooner-end .ensures)))
+    let o = c .before .before .before .before .before .before .before in
+    let l = o .loop in
+    let a = o .before .before .before .args in
+    (search needs, among-more (a .now) (a .t1 .tasks) (l .i) (l .soonest) (c .sooner-end .result) (l .inv .1) (rw (← c .before .before .sooner-due .ensures, ← c .before .sooner-due2 .ensures) (c .sooner-end .ensures)))
 
 moment-of-requires : tie.Need-moment-of-requires Inv-loop μ-loop
 moment-of-requires c κs = search needs
@@ -53,8 +55,8 @@ moment-of-requires c κs = search needs
 returns : tie.Need-returns Inv-loop μ-loop
 returns c =
     let l = c .before .before .loop in
-    let k = c .before .before .before .before .before .before .args .t1 in
-    c .moment-of .ensures ∙ l .inv .1 ∙ ap (nextAmong k) (le-antisymm (l .inv .0) (c .before .loop-test .left)) ∙ among-all k
+    let a = c .before .before .before .before .before .args in
+    c .moment-of .ensures ∙ l .inv .1 ∙ ap (λ (i : ℕ). nextAmong (a .now) i (a .t1 .tasks)) (le-antisymm (l .inv .0) (c .before .loop-test .left))
 
 pub next-event-spec : {M : Type 1} → statement M
 next-event-spec =

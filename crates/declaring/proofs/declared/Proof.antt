@@ -12,8 +12,8 @@ use Rattle.layout.proofs.MarksLaws.{alike}
 use Rattle.record.specs.Reading.{callWith}
 use Rattle.machine.specs.declared.State.{State}
 use Rattle.machine.specs.declared.Stepped.{Stepped}
-use Rattle.machine.specs.declared.Running.{Running}
-use Rattle.machine.specs.State.{withRunning}
+use Rattle.machine.specs.declared.OnFile.{OnFile}
+use Rattle.machine.specs.State.{withFile}
 use Rattle.machine.specs.Refusals.{roomFor}
 use Rattle.machine.specs.Calls.{addSemaphore, declaration}
 use Rattle.machine.specs.Step.{refuse, declared}
@@ -26,58 +26,59 @@ room : (s : tie.Start) {m : Mark} → s .args .h .mark ≡ m → roomFor m (s .a
 room s {m} e = let a = s .args in rw (← e) (formal day (a .k .counts) (a .k .begun) (callWith (a .h) (s .pre .1 .0)) (s .pre .1 .1) .room)
 
 -- The answer z has the state d, as the mark m leaves it.
-left : (s : tie.Start) (l : List ℕ) {m : Mark} {z : Stepped} {d : State} → s .args .h .mark ≡ m → z ≡ refuse (withRunning (s .args .r) d) 0 (s .args .r)
+left : (s : tie.Start) (l : List ℕ) {m : Mark} {z : Stepped} {d : State} → s .args .h .mark ≡ m → z ≡ refuse (withFile (s .args .k .file) d) 0 (s .args .k .file .running)
     → d ≡ declaration m (callWith (s .args .h) l) (s .args .k)
     → z ≡ declared (s .args .k) (declaration (s .args .h .mark) (callWith (s .args .h) l) (s .args .k))
 unfolding refuse declared
 left s l {m} e p q =
     let a = s .args in
-    p ∙ ap (λ (d : State). refuse (withRunning (a .r) d) 0 (a .r)) q
-    ∙ ap (λ (r : Running). refuse (withRunning r (declaration m (callWith (a .h) l) (a .k))) 0 r) (s .pre .0)
+    p ∙ ap (λ (d : State). refuse (withFile (a .k .file) d) 0 (a .k .file .running)) q
+    ∙ ap (λ (f : OnFile). refuse (withFile f (declaration m (callWith (a .h) l) (a .k))) 0 (f .running)) (s .pre .0)
     ∙ sym (ap (λ (x : Mark). declared (a .k) (declaration x (callWith (a .h) l) (a .k))) e)
 
 add-task-requires : tie.Need-add-task-requires
-add-task-requires c κs = room-task _ (room (c .before .before) (c .enum-told .given .1))
+add-task-requires c κs = room-task _ (room (c .before .before .before) (c .enum-told .given .1))
 
 add-semaphore-requires : tie.Need-add-semaphore-requires
-add-semaphore-requires c κs = room-semaphore _ (room (c .before .before .before) (c .before .enum-told2 .given .1))
+add-semaphore-requires c κs = room-semaphore _ (room (c .before .before .before .before) (c .before .enum-told2 .given .1))
 
 add-bolt-requires : tie.Need-add-bolt-requires
-add-bolt-requires c κs = room-bolt _ (room (c .before .before) (c .enum-told3 .given .1))
+add-bolt-requires c κs = room-bolt _ (room (c .before .before .before) (c .enum-told3 .given .1))
 
 add-interrupt-requires : tie.Need-add-interrupt-requires
-add-interrupt-requires c κs = room-interrupt _ (room (c .before .before) (c .enum-told4 .given .1))
+add-interrupt-requires c κs = room-interrupt _ (room (c .before .before .before) (c .enum-told4 .given .1))
 
 returns : tie.Need-returns
 unfolding declaration
-returns c l = left (c .before .before .before .before) l (c .before .before .enum-told .given .1) (c .filed .ensures) (c .before .add-task .ensures)
+returns c l = left (c .before .before .before .before .before) l (c .before .before .enum-told .given .1) (c .filed .ensures) (c .before .add-task .ensures)
 
 returns-2 : tie.Need-returns-2
 unfolding declaration
 returns-2 c l =
-    let s = c .before .before .before .before .before in
+    let s = c .before .before .before .before .before .before in
     let a = s .args in
     let o = c .before .before .before .enum-told2 .given .1 in
     left s l o (c .filed2 .ensures) (c .before .add-semaphore .ensures ∙ ap (λ v. addSemaphore v (a .k)) (preset-same day (a .k) (a .h) _ (s .pre .1 .1) o))
 
 returns-3 : tie.Need-returns-3
 unfolding declaration
-returns-3 c l = left (c .before .before .before .before) l (c .before .before .enum-told3 .given .1) (c .filed3 .ensures) (c .before .add-bolt .ensures)
+returns-3 c l = left (c .before .before .before .before .before) l (c .before .before .enum-told3 .given .1) (c .filed3 .ensures) (c .before .add-bolt .ensures)
 
 returns-4 : tie.Need-returns-4
 unfolding declaration
-returns-4 c l = left (c .before .before .before .before) l (c .before .before .enum-told4 .given .1) (c .filed4 .ensures) (c .before .add-interrupt .ensures)
+returns-4 c l = left (c .before .before .before .before .before) l (c .before .before .enum-told4 .given .1) (c .filed4 .ensures) (c .before .add-interrupt .ensures)
 
 returns-5 : tie.Need-returns-5
 unfolding declaration
-returns-5 c l = left (c .before .before .before .before) l (c .before .before .enum-told5 .given .1) (c .filed5 .ensures) (c .before .set-clock .ensures)
+returns-5 c l = left (c .before .before .before .before .before) l (c .before .before .enum-told5 .given .1) (c .filed5 .ensures) (c .before .set-clock .ensures)
 
 returns-6 : tie.Need-returns-6
 unfolding declaration refuse declared
 returns-6 c l =
-    let s = c .before .before in
+    let s = c .before .before .before in
     let a = s .args in
-    c .filed6 .ensures ∙ rw (s .pre .0) (alike (λ m. declared (a .k) (declaration m (callWith (a .h) l) (a .k))) (a .h .mark) (drop 5 marks) refl (c .before .match .keys6))
+    c .filed6 .ensures ∙ ap (λ (f : OnFile). refuse (withFile f (a .k)) 0 (f .running)) (s .pre .0)
+    ∙ alike (λ m. declared (a .k) (declaration m (callWith (a .h) l) (a .k))) (a .h .mark) (drop 5 marks) refl (c .before .match .keys6)
 
 pub declared-spec : {M : Type 1} → statement M
 declared-spec =

@@ -8,7 +8,7 @@ use Rattle.interrupts.proofs.enabled_as.Statement.{statement}
 use Rattle.interrupts.proofs.enabled_as.Tie as tie
 
 element-write-k : tie.Need-element-write-k
-element-write-k c = interrupt-fits (c .args .t1) (c .pre .0) (c .args .i) (c .pre .1 .1)
+element-write-k c = interrupt-fits (c .args .t1) (c .pre .1 .0) (c .args .i) (c .pre .1 .1 .1)
 
 done-requires : tie.Need-done-requires
 unfolding waitsOk

@@ -1,7 +1,7 @@
 -- A tick goes its own way; then the formal refusals; then declarations, ticks, interrupts, and what is about one task.
 use borrow.Author.Needs.{needs}
 use borrow.Author.Tests.{ltb-true, not-true, not-false}
-use mathlib.Core.Path.{_≡_, sym, ap, _∙_}
+use mathlib.Core.Path.{_≡_, refl, sym, ap, _∙_}
 use mathlib.Core.Bool.{true}
 use mathlib.Core.List.{List}
 use Prim.Native.Nat.{ℕ}
@@ -11,21 +11,23 @@ use Rattle.layout.specs.Fields.{callOf}
 use Rattle.layout.specs.declared.Head.{Head}
 use Rattle.layout.specs.declared.Mark.the-variants.{TI}
 use Rattle.record.specs.Reading.{numberOf, callWith}
-use Rattle.machine.specs.declared.Sort.the-variants.{AnInterrupt}
+use Rattle.machine.specs.declared.Sort.the-variants.{AnInterrupt, EveryTask}
 use Rattle.machine.specs.declared.State.{State}
 use Rattle.machine.specs.Scripts.{oneTick}
-use Rattle.machine.specs.Sorts.{declaring, declares}
+use Rattle.machine.specs.Sorts.{sortOf, declaring, declares}
 use Rattle.machine.specs.Refusals.{formalRefusal, declaredBy}
 use Rattle.machine.specs.Running.{runner}
+use Rattle.machine.specs.NextEvent.{nextEvent}
+use Rattle.machine.specs.Calls.{arrival}
 use Rattle.machine.specs.Test.{valid}
-use Rattle.machine.proofs.Filing.{taken-valid, taken-filed}
+use Rattle.machine.proofs.Filing.{taken-valid, taken-filed, taken-runner, taken-next}
 use Rattle.machine.specs.Step.{refuse, settle, step}
 use Rattle.machine.proofs.Quiet.{tick-step}
 use Rattle.granting.proofs.Owned.{tasks-long}
 use Rattle.refusals.specs.Inner.{aboutOne}
 use Rattle.refusals.proofs.Admitting.{admitted-formal}
 use Rattle.quiet_ticks.proofs.QuietLaws.{tick-bytes}
-use Rattle.changes.proofs.CallLaws.{past, settled-declared, settled-interrupt, settled-tick, step-refused, step-admitted}
+use Rattle.changes.proofs.CallLaws.{past, settled-declared, settled-interrupt, settled-time, step-refused, step-admitted}
 use Rattle.changes.proofs.ChangeLaws.{interrupt-left, tick-left}
 use Rattle.calls.proofs.step.step_on.Statement.{statement}
 use Rattle.calls.proofs.step.step_on.Tie as tie
@@ -43,12 +45,15 @@ start c = read c .before .before .before .before .before .before
 abbrev state : K → State
 state c = start c .args .k
 
--- The kernel passes the test, and its running task is on file.
+-- The kernel passes the test, and its running task and next event are on file.
 valid-at : (s : tie.Start) → valid day (s .args .k) ≡ true
 valid-at s = taken-valid day (s .args .k) (s .pre)
 
 runs-at : (s : tie.Start) → s .args .k .file .running ≡ runner (s .args .k)
-runs-at s = taken-filed day (s .args .k) (s .pre)
+runs-at s = taken-runner day (s .args .k) (s .pre)
+
+next-at : (s : tie.Start) → s .args .k .file .next ≡ nextEvent (s .args .k)
+next-at s = taken-next day (s .args .k) (s .pre)
 
 abbrev head : K → Head
 head c = c .before .answer .given .0 .0
@@ -77,17 +82,24 @@ sort-at c = c .before .before .before .before .before .before
 about : (c : tie.Else4) → aboutOne (sort-at c .sort-of .result) ≡ true
 about c = sym (c .before .is-about-one .ensures) ∙ not-false (c .before .is-about-one .result) (c .if4 .left)
 
-ticked-requires : tie.Need-ticked-requires
-ticked-requires c κs = let s = c .before .before .before .before in (valid-at s, runs-at s)
+passed-requires : tie.Need-passed-requires
+passed-requires c κs = let s = c .before .before .before .before in (refl, (valid-at s, (runs-at s, next-at s)))
 
-ticked-requires-2 : tie.Need-ticked-requires-2
-ticked-requires-2 c κs = let s = start (c .before .before .before .before .before) in (valid-at s, runs-at s)
+-- The sort is about every task.
+timed : (c : tie.Then3) → sortOf (head (c .before .before .before .before .before) .mark) ≡ EveryTask
+timed c =
+    let t = c .before in
+    sym (t .before .before .before .sort-of .ensures) ∙ tick-left _ (sym (t .is-ticking .ensures) ∙ c .if3 .taken)
+
+passed-requires-2 : tie.Need-passed-requires-2
+passed-requires-2 c κs = let s = start (c .before .before .before .before .before) in (timed c, (valid-at s, (runs-at s, next-at s)))
 
 returns : tie.Need-returns
+unfolding arrival
 returns c =
     let s = c .before .before .before .before .before in
     let a = s .args in
-    c .ticked .ensures (callOf TI oneTick)
+    c .passed .ensures (callOf TI oneTick)
     ∙ sym (tick-step day (a .k) (tasks-long (a .k) (s .good .0 .0, s .good .0 .1 .1)) (s .pre) (callOf TI oneTick))
     ∙ ap (step day (a .k)) (sym (tick-bytes (now (a .s)) (sym (c .before .before .is-tick .ensures) ∙ c .before .if1 .taken)))
 
@@ -101,7 +113,7 @@ returns-2 c =
     ∙ step-refused day _ _ (s .pre) (o .admit .ensures) e (runs-at s)
 
 declared-requires : tie.Need-declared-requires
-declared-requires c κs = let q = c .before .before .before in (runs-at (start q), (list q, formed q))
+declared-requires c κs = let q = c .before .before .before in (taken-filed day _ (start q .pre), (list q, formed q))
 
 returns-3 : tie.Need-returns-3
 unfolding declares
@@ -114,19 +126,15 @@ returns-3 c =
 
 returns-4 : tie.Need-returns-4
 returns-4 c =
-    let t = c .before .before in
-    let o = t .before .before .before in
-    let q = o .before in
-    c .ticked2 .ensures (callWith (head q) (list q))
-    ∙ settled-tick day (state q) (head q) (list q) (sym (o .sort-of .ensures) ∙ tick-left _ (sym (t .is-ticking .ensures) ∙ c .before .if3 .taken))
-    ∙ settled q
+    let q = c .before .before .before .before .before .before in
+    c .passed2 .ensures (callWith (head q) (list q)) ∙ settled-time day (state q) (head q) (list q) (timed (c .before)) ∙ settled q
 
 interrupted-requires : tie.Need-interrupted-requires
 unfolding declaredBy
 interrupted-requires c κs =
     let o = c .before .before .before .before .before .before in
     let q = o .before in
-    (valid-at (start q), ltb-true _ _ (rw (sym (o .sort-of .ensures) ∙ signal c) at (past day (state q) (head q) (list q) (formed q) .known)))
+    (next-at (start q), (valid-at (start q), ltb-true _ _ (rw (sym (o .sort-of .ensures) ∙ signal c) at (past day (state q) (head q) (list q) (formed q) .known))))
 
 returns-5 : tie.Need-returns-5
 returns-5 c =
@@ -139,7 +147,7 @@ done-to-requires c κs =
     let t = c .before in
     let e = t .before .before in
     let q = sort-at e .before in
-    (valid-at (start q), (runs-at (start q), (formed q, (sort-at e .sort-of .ensures, (about e, rw (← t .before .is-naming .ensures, t .if5 .taken))))))
+    (start q .pre, (runs-at (start q), (formed q, (sort-at e .sort-of .ensures, (about e, rw (← t .before .is-naming .ensures, t .if5 .taken))))))
 
 returns-6 : tie.Need-returns-6
 returns-6 c = c .done-to .ensures ∙ settled (sort-at (c .before .before .before .before) .before)
@@ -149,7 +157,7 @@ done-to-requires-2 c κs =
     let t = c .before in
     let e = t .before .before in
     let q = sort-at e .before in
-    (valid-at (start q), (runs-at (start q), (formed q, (sort-at e .sort-of .ensures, (about e, rw (← t .before .is-naming .ensures, t .if5 .left, c .runner-at .ensures))))))
+    (start q .pre, (runs-at (start q), (formed q, (sort-at e .sort-of .ensures, (about e, rw (← t .before .is-naming .ensures, t .if5 .left, c .runner-at .ensures))))))
 
 returns-7 : tie.Need-returns-7
 returns-7 c = c .done-to2 .ensures ∙ settled (sort-at (c .before .before .before .before) .before)
@@ -159,7 +167,7 @@ step-on-spec =
     tie.close
     (tie.spec
     (λ c κs. search needs)
-    ticked-requires
+    passed-requires
     returns
     (λ c κs. search needs)
     (λ c. search needs)
@@ -172,7 +180,7 @@ step-on-spec =
     declared-requires
     returns-3
     (λ c κs. search needs)
-    ticked-requires-2
+    passed-requires-2
     returns-4
     (λ c κs. search needs)
     interrupted-requires

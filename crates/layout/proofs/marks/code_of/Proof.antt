@@ -72,10 +72,14 @@ returns-22 c = rw (c .enum-told22 .given .1)
 returns-23 : tie.Need-returns-23
 returns-23 c = rw (c .enum-told23 .given .1)
 
+returns-24 : tie.Need-returns-24
+returns-24 c = rw (c .enum-told24 .given .1)
+
 pub code-of-spec : {M : Type 1} → statement M
 code-of-spec =
     tie.close
     (tie.spec
+    (λ c. search needs)
     (λ c. search needs)
     (λ c. search needs)
     (λ c. search needs)
@@ -121,4 +125,5 @@ code-of-spec =
     returns-20
     returns-21
     returns-22
-    returns-23)
+    returns-23
+    returns-24)

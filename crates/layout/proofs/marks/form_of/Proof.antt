@@ -3,7 +3,7 @@ use borrow.Author.Needs.{needs}
 use mathlib.Core.Path.{refl}
 use mathlib.Core.List.{[], _∷_}
 use Rattle.layout.specs.Marks.{form}
-use Rattle.layout.specs.declared.Mark.the-variants.{DB, IT, TE, SU, PR, EN, RQ, RL, RS, FR, ET, LV, TG, EI, XI, TI}
+use Rattle.layout.specs.declared.Mark.the-variants.{DB, IT, TE, SU, PR, EN, RQ, RL, RS, FR, ET, LV, TG, EI, XI, TI, SL}
 use Rattle.layout.proofs.MarksLaws.{alike}
 use Rattle.layout.proofs.marks.form_of.Statement.{statement}
 use Rattle.layout.proofs.marks.form_of.Tie as tie
@@ -15,7 +15,7 @@ returns-2 : tie.Need-returns-2
 returns-2 c = rw (c .enum-told2 .given .1)
 
 returns-3 : tie.Need-returns-3
-returns-3 c = alike form (c .before .args .mark) (DB ∷ IT ∷ EN ∷ TI ∷ []) refl (c .match .keys3)
+returns-3 c = alike form (c .before .args .mark) (DB ∷ IT ∷ EN ∷ TI ∷ SL ∷ []) refl (c .match .keys3)
 
 returns-4 : tie.Need-returns-4
 returns-4 c = rw (c .enum-told3 .given .1)

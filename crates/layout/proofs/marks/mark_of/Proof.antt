@@ -1,5 +1,5 @@
 -- Arm by arm, by the letters' laws.
-use Rattle.layout.specs.declared.Mark.the-variants.{DT, DS, DB, IT, DC, AC, TE, SU, PR, CO, EN, RE, RQ, RL, TR, RS, FR, ET, LV, TG, EI, XI, TI}
+use Rattle.layout.specs.declared.Mark.the-variants.{DT, DS, DB, IT, DC, AC, TE, SU, PR, CO, EN, RE, RQ, RL, TR, RS, FR, ET, LV, TG, EI, XI, TI, SL}
 use Rattle.layout.proofs.MarksLaws.{known, unknown}
 use Rattle.layout.proofs.marks.mark_of.Statement.{statement}
 use Rattle.layout.proofs.marks.mark_of.Tie as tie
@@ -74,7 +74,10 @@ returns-23 : tie.Need-returns-23
 returns-23 c = known TI (c .match .keys23)
 
 returns-24 : tie.Need-returns-24
-returns-24 c = unknown (c .before .args .letters) (c .match .rest)
+returns-24 c = known SL (c .match .keys24)
+
+returns-25 : tie.Need-returns-25
+returns-25 c = unknown (c .before .args .letters) (c .match .rest)
 
 pub mark-of-spec : {M : Type 1} → statement M
 mark-of-spec =
@@ -103,4 +106,5 @@ mark-of-spec =
     returns-21
     returns-22
     returns-23
-    returns-24)
+    returns-24
+    returns-25)

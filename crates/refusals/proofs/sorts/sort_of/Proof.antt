@@ -2,7 +2,7 @@
 use borrow.Author.Needs.{needs}
 use mathlib.Core.Path.{refl}
 use mathlib.Core.List.{[], _∷_}
-use Rattle.layout.specs.declared.Mark.the-variants.{DT, DS, DB, IT, DC, AC, TE, SU, PR, CO, EN, RE, TG, EI, XI}
+use Rattle.layout.specs.declared.Mark.the-variants.{DT, DS, DB, IT, DC, AC, TE, SU, PR, CO, EN, RE, TG, EI, XI, TI, SL}
 use Rattle.layout.proofs.MarksLaws.{alike}
 use Rattle.machine.specs.Sorts.{sortOf}
 use Rattle.refusals.proofs.sorts.sort_of.Statement.{statement}
@@ -42,13 +42,12 @@ returns-11 : tie.Need-returns-11
 returns-11 c = alike sortOf (c .before .args .mark) (TG ∷ EI ∷ XI ∷ []) refl (c .match .keys11)
 
 returns-12 : tie.Need-returns-12
-returns-12 c = rw (c .enum-told8 .given .1)
+returns-12 c = alike sortOf (c .before .args .mark) (TI ∷ SL ∷ []) refl (c .match .keys12)
 
 pub sort-of-spec : {M : Type 1} → statement M
 sort-of-spec =
     tie.close
     (tie.spec
-    (λ c. search needs)
     (λ c. search needs)
     (λ c. search needs)
     (λ c. search needs)

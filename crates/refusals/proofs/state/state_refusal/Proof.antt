@@ -11,8 +11,8 @@ use Rattle.refusals.proofs.state.state_refusal.Tie as tie
 
 -- The refusal by the sort x.
 by : (s : tie.Start) (x : Sort) → s .args .sort ≡ x
-    → let a = s .args in bySort x (a .h .mark) (callWith (a .h) (a .list)) (a .r) (a .t) (a .locks) (a .now) ≡ refusalBy (a .h .mark) (callWith (a .h) (a .list)) (a .r) (a .t) (a .locks) (a .now)
-by s x q = let a = s .args in refusal-by (callWith (a .h) (a .list)) (a .r) (a .t) (a .locks) (a .now) (a .h .mark) x (sym (s .pre .0) ∙ q)
+    → let a = s .args in bySort x (a .h .mark) (callWith (a .h) (a .list)) (a .r) (a .t) (a .locks) (a .now) (a .next) ≡ refusalBy (a .h .mark) (callWith (a .h) (a .list)) (a .r) (a .t) (a .locks) (a .now) (a .next)
+by s x q = let a = s .args in refusal-by (callWith (a .h) (a .list)) (a .r) (a .t) (a .locks) (a .now) (a .next) (a .h .mark) x (sym (s .pre .0) ∙ q)
 
 returns : tie.Need-returns
 returns c = c .named-refusal .ensures ∙ by (c .before .before .before .before) OneTask (c .before .enum-told .given .1)
@@ -30,7 +30,7 @@ returns-4 c =
     rw (c .unless4 .ensures, u .unless3 .ensures, u .before .unreturnable .ensures, u .before .before .can-move-all .ensures, p .is-someone3 .ensures) (by (p .before .before .before .before .before) _ (p .before .before .sort .given .1))
 
 returns-5 : tie.Need-returns-5
-returns-5 c = rw (c .unless5 .ensures) (by (c .before .before .before .before .before) EveryTask (c .before .before .enum-told4 .given .1))
+returns-5 c = c .time-refusal .ensures ∙ by (c .before .before .before .before) EveryTask (c .before .enum-told4 .given .1)
 
 returns-6 : tie.Need-returns-6
 returns-6 c = by (c .before .before .before) Declaration (c .enum-told5 .given .1)

@@ -1,56 +1,49 @@
 -- What is carried on stays the same, and the text grows by each record's line.
 use borrow.Author.Needs.{needs}
 use borrow.Author.Tests.{ltb-true}
-use mathlib.Core.Path.{_≡_, refl, sym, ap, _∙_, subst}
+use mathlib.Core.Path.{_≡_, refl, sym, _∙_}
 use mathlib.Core.Bool.{true}
-use mathlib.Core.Logic.{⊎-elim}
 use Prim.Native.Nat.{ℕ, _+_, _-_, _≤_, _<_}
 use native.Mathlib.Omega.{arith}
 use lib.ListN.{length}
 use Rattle.machine.specs.declared.State.{State}
 use Rattle.lines.specs.Lines.{longestLine}
 use Rattle.lock.proofs.Bools.{both}
-use Rattle.calendar.specs.Limits.{day, lastInstant}
-use Rattle.calendar.specs.Moments.{upTo}
-use Rattle.calls.proofs.SaidLaws.{said-number, said-next}
+use Rattle.calendar.specs.Limits.{day}
+use Rattle.calls.proofs.SaidLaws.{said-number}
 use Rattle.granting.proofs.Owned.{tables-long}
-use Rattle.script.proofs.Going.{Still, still-next, Going, good, early, few, ahead, fits, started, stopped, refused, moved, stepped}
+use Rattle.script.proofs.Going.{Going, good, early, ahead, fits, started, stopped, refused, moved, stepped}
 use Rattle.script.proofs.run.run.Statement.{statement}
 use Rattle.script.proofs.run.run.Tie as tie
 
 abbrev Inv-loop : tie.InvT-loop
-Inv-loop bytes out₀ k₀ refusal quiet₀ at₀ fill₀ out k quiet at fill = Going bytes out₀ k₀ refusal out k quiet at fill
+Inv-loop bytes out₀ k₀ refusal at₀ fill₀ out k at fill = Going bytes out₀ k₀ refusal out k at fill
 
 abbrev μ-loop : tie.MeasureT-loop
-μ-loop bytes out₀ k₀ refusal quiet₀ at₀ fill₀ out k quiet at fill = length bytes - at
+μ-loop bytes out₀ k₀ refusal at₀ fill₀ out k at fill = length bytes - at
 
 -- Where a record's end is known.
 abbrev N : Type 0
 N = tie.After-end-of Inv-loop μ-loop
 
--- Where the kernel isn't turned away, and once ticks before quiet are known to be quiet.
+-- Where the kernel isn't turned away, and once the next event on file has been looked at.
 abbrev E : Type 0
 E = tie.Else1 Inv-loop μ-loop
 
 abbrev J : Type 0
-J = tie.Joined2 Inv-loop μ-loop
+J = tie.After-up-to Inv-loop μ-loop
 
 abbrev nOf : E → N
 nOf c = c .before .before
 
 abbrev eOf : J → E
-eOf c = c .before .before .before .before
+eOf c = c .before .before .before .before .before
 
 abbrev kOf : J → State
 kOf c = nOf (eOf c) .before .before .loop .k
 
-passes : (c : E) → nOf c .before .before .before .before .kernel-refusal .result ≡ 0
+passes : (c : E) → nOf c .before .before .before .kernel-refusal .result ≡ 0
 passes c = c .if1 .left
-
-quietly : (c : J) → Still (c .if2 .quiet) (kOf c)
-quietly c =
-    ⊎-elim (λ w. still-next (kOf c) (w .3 ∙ w .2 .ensures ∙ ap (upTo (lastInstant + 1)) (w .1 .ensures)))
-    (λ w. subst (λ (q : ℕ). Still q (kOf c)) (sym (w .1)) (nOf (eOf c) .before .before .loop .inv .still (passes (eOf c)))) (c .if2 .came)
 
 survey-requires : tie.Need-survey-requires Inv-loop μ-loop
 survey-requires c κs = search needs
@@ -58,24 +51,16 @@ survey-requires c κs = search needs
 kernel-refusal-requires : tie.Need-kernel-refusal-requires Inv-loop μ-loop
 kernel-refusal-requires c κs = search needs
 
-add-up-to : tie.Need-add-up-to Inv-loop μ-loop
-add-up-to c = search needs
-
-up-to-requires : tie.Need-up-to-requires Inv-loop μ-loop
-up-to-requires c κs = search needs
-
 loop-holds : tie.Need-loop-holds Inv-loop μ-loop
 loop-holds c =
-    let q = c .before in
-    let v = q .before .before in
+    let v = c .before .before in
     let s = v .before .before .before .before in
     let a = s .args in
     let k = a .script .kernel .state in
     let o = s .good .0 .1 .1 .0 .1 .1 .0 in
-    started (a .bytes .now) (a .out .now) k (q .kernel-refusal .result) (c .up-to .result)
+    started (a .bytes .now) (a .out .now) k (c .kernel-refusal .result)
     (λ i. v .before .before .before .shared-slice-known .given i .fits) (tables-long k (o .0, o .1 .1))
-    (said-number day k (v .survey .ensures) (q .kernel-refusal .ensures))
-    (λ t. still-next k (c .up-to .ensures ∙ ap (upTo (lastInstant + 1)) (said-next day k (v .survey .ensures) t)))
+    (said-number day k (v .survey .ensures) (c .kernel-refusal .ensures))
 
 sub-loop : tie.Need-sub-loop Inv-loop μ-loop
 sub-loop c = omega (arith, c .loop .inv .room, c .loop .inv .long)
@@ -99,8 +84,8 @@ plain-requires c κs = search needs
 room : (c : N) → c .before .before .loop .fill + longestLine ≤ length (c .before .before .loop .out)
 room c = fits (c .before .before .loop .inv) (c .before .loop-test .taken)
 
-less : (c : N) → length (c .before .before .before .before .before .before .before .before .before .before .args .bytes .now) - c .end-of .result
-    < length (c .before .before .before .before .before .before .before .before .before .before .args .bytes .now) - c .before .before .loop .at
+less : (c : N) → length (c .before .before .before .before .before .before .before .before .before .args .bytes .now) - c .end-of .result
+    < length (c .before .before .before .before .before .before .before .before .before .args .bytes .now) - c .before .before .loop .at
 less c = omega (arith, ahead (c .before .before .loop .inv) (c .before .loop-test .taken))
 
 line-at-requires : tie.Need-line-at-requires Inv-loop μ-loop
@@ -121,22 +106,16 @@ is-tick-requires : tie.Need-is-tick-requires Inv-loop μ-loop
 is-tick-requires c κs = search needs
 
 add-if2 : tie.Need-add-if2 Inv-loop μ-loop
-add-if2 c = let e = c .before .before .before in omega (arith, early (nOf e .before .before .loop .inv) (passes e))
+add-if2 c = let e = c .before .before .before .before in omega (arith, early (nOf e .before .before .loop .inv) (passes e))
 
-next-event-requires : tie.Need-next-event-requires Inv-loop μ-loop
-next-event-requires c κs = let e = c .before .before .before .before in few (nOf e .before .before .loop .inv) (passes e)
+add-up-to : tie.Need-add-up-to Inv-loop μ-loop
+add-up-to c = search needs
 
-add-up-to-2 : tie.Need-add-up-to-2 Inv-loop μ-loop
-add-up-to-2 c = search needs
-
-up-to-requires-2 : tie.Need-up-to-requires-2 Inv-loop μ-loop
-up-to-requires-2 c κs = search needs
-
-add-if3 : tie.Need-add-if3 Inv-loop μ-loop
-add-if3 c = let e = eOf (c .before) in omega (arith, early (nOf e .before .before .loop .inv) (passes e))
+up-to-requires : tie.Need-up-to-requires Inv-loop μ-loop
+up-to-requires c κs = search needs
 
 plus-requires : tie.Need-plus-requires Inv-loop μ-loop
-plus-requires c κs = let e = eOf (c .before .before .before) in omega (arith, early (nOf e .before .before .loop .inv) (passes e))
+plus-requires c κs = let e = eOf (c .before) in omega (arith, early (nOf e .before .before .loop .inv) (passes e))
 
 begun-at-requires : tie.Need-begun-at-requires Inv-loop μ-loop
 begun-at-requires c κs = search needs
@@ -145,41 +124,41 @@ plain-requires-2 : tie.Need-plain-requires-2 Inv-loop μ-loop
 plain-requires-2 c κs = search needs
 
 line-at-requires-2 : tie.Need-line-at-requires-2 Inv-loop μ-loop
-line-at-requires-2 c κs = room (nOf (eOf (c .before .before .before .before .before .before .before)))
+line-at-requires-2 c κs = room (nOf (eOf (c .before .before .before .before .before)))
 
 loop-less-2 : tie.Need-loop-less-2 Inv-loop μ-loop
-loop-less-2 c = less (nOf (eOf (c .before .before .before .before .before .before .before .before .before .before)))
+loop-less-2 c = less (nOf (eOf (c .before .before .before .before .before .before .before .before)))
 
 loop-again-2 : tie.Need-loop-again-2 Inv-loop μ-loop
 loop-again-2 c =
     let a = c .before .before in
     let p = a .before .before in
     let u = p .before .before in
-    let j = u .before .before .before .before in
+    let j = u .before .before in
     let n = nOf (eOf j) in
-    let x = both _ _ (u .before .before .if3 .taken) in
+    let x = both _ _ (u .before .if2 .taken) in
     rw (p .before .begun-at .ensures, u .plus .ensures)
-    (moved (n .before .before .loop .inv) (n .end-of .result) (n .before .loop-test .taken) (n .end-of .ensures) (passes (eOf j)) (j .if2 .quiet) (quietly j)
+    (moved (n .before .before .loop .inv) (n .end-of .result) (n .before .loop-test .taken) (n .end-of .ensures) (passes (eOf j)) (j .up-to .ensures)
     (sym (j .before .before .is-tick .ensures) ∙ x .0) (ltb-true _ _ (x .1)) (rw (p .plain2 .ensures) at (a .line-at2 .ensures .0))
     (a .line-at2 .ensures .1) (a .line-at2 .kept .1 .0))
 
 step-on-requires : tie.Need-step-on-requires Inv-loop μ-loop
 step-on-requires c κs =
-    let e = eOf (c .before .before) in
+    let e = eOf (c .before) in
     let g = nOf e .before .before .loop .inv in
     good g (passes e)
 
 line-if-requires : tie.Need-line-if-requires Inv-loop μ-loop
-line-if-requires c κs = room (nOf (eOf (c .before .before .before .before .before .before .before .before)))
+line-if-requires c κs = room (nOf (eOf (c .before .before .before .before .before .before .before)))
 
 loop-less-3 : tie.Need-loop-less-3 Inv-loop μ-loop
-loop-less-3 c = less (nOf (eOf (c .before .before .before .before .before .before .before .before .before .before .before)))
+loop-less-3 c = less (nOf (eOf (c .before .before .before .before .before .before .before .before .before .before)))
 
 loop-again-3 : tie.Need-loop-again-3 Inv-loop μ-loop
 loop-again-3 c =
     let a = c .before .before in
     let z = a .before .before .before .before .before .before in
-    let j = z .before .before .before in
+    let j = z .before .before in
     let n = nOf (eOf j) in
     stepped (n .before .before .loop .inv) (n .end-of .result) (n .before .loop-test .taken) (n .end-of .ensures) (passes (eOf j)) (z .step-on .result)
     (z .step-on .ensures) (a .line-if .ensures .0) (a .line-if .ensures .1) (a .line-if .kept .1 .1 .0)
@@ -190,7 +169,7 @@ same-length c = c .before .loop .inv .long
 returns : tie.Need-returns Inv-loop μ-loop
 returns c =
     let h = c .before in
-    stopped (h .loop .inv) (h .before .before .before .before .before .before .before .before .args .script) refl (c .loop-test .left)
+    stopped (h .loop .inv) (h .before .before .before .before .before .before .before .args .script) refl (c .loop-test .left)
 
 pub run-spec : {M : Type 1} → statement M
 run-spec =
@@ -200,8 +179,6 @@ run-spec =
     μ-loop
     survey-requires
     kernel-refusal-requires
-    add-up-to
-    up-to-requires
     loop-holds
     sub-loop
     end-of-requires
@@ -214,10 +191,8 @@ run-spec =
     loop-again
     is-tick-requires
     add-if2
-    next-event-requires
-    add-up-to-2
-    up-to-requires-2
-    add-if3
+    add-up-to
+    up-to-requires
     plus-requires
     begun-at-requires
     plain-requires-2

@@ -4,6 +4,7 @@ use mathlib.Core.Path.{ap, _∙_}
 use Rattle.machine.specs.Work.{onlyEnabled}
 use Rattle.machine.specs.Step.{finish}
 use Rattle.serving.specs.Ends.{workHere}
+use Rattle.serving.proofs.EndLaws.{next-of-work}
 use Rattle.serving.proofs.ends.done.Statement.{statement}
 use Rattle.serving.proofs.ends.done.Tie as tie
 
@@ -19,8 +20,10 @@ finished-requires c κs = search needs
 returns : tie.Need-returns
 unfolding onlyEnabled
 returns c =
-    let k = c .before .before .before .args .k in
+    let s = c .before .before .before .before in
+    let k = s .args .k in
     c .finished .ensures (k .tasks) (c .before .nobody-turned .ensures (k .counts .tasks) (k .tasks))
+    ∙ next-of-work k _ (s .pre .0)
     ∙ ap (λ m. finish k (workHere k m)) (c .before .before .no-sets .ensures)
 
 pub done-spec : {M : Type 1} → statement M

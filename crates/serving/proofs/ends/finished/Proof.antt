@@ -24,10 +24,10 @@ use Rattle.serving.proofs.ends.finished.Statement.{statement}
 use Rattle.serving.proofs.ends.finished.Tie as tie
 
 abbrev Inv-loop : tie.InvT-loop
-Inv-loop m turned k counts n late lead₀ runnable₀ waiting₀ i₀ lead runnable waiting i = (i ≤ n) × Scanning k late i lead runnable waiting
+Inv-loop m turned next k counts n late lead₀ runnable₀ waiting₀ i₀ lead runnable waiting i = (i ≤ n) × Scanning k late i lead runnable waiting
 
 abbrev μ-loop : tie.MeasureT-loop
-μ-loop m turned k counts n late lead₀ runnable₀ waiting₀ i₀ lead runnable waiting i = n - i
+μ-loop m turned next k counts n late lead₀ runnable₀ waiting₀ i₀ lead runnable waiting i = n - i
 
 -- ---- where the call stands
 
@@ -192,7 +192,7 @@ returns c =
     rw (c .answer-of .ensures, c .before .begun-at .ensures, c .before .before .before .who .ensures)
     (settled-ends (a .t1) (a .m) (fits i) (start i .pre .1) (tables-long (a .t1) (good (start i)) .places) ts before b
     (j .if2 .k) (j .if2 .granted) (j .if2 .lead) (j .if2 .after) (settled j ts t b)
-    (ev .events-of .result) (λ us s. ev .events-of .ensures n ts us (fits i) b s) (mv .moved .result) (mv .moved .ensures))
+    (ev .events-of .result) (λ us s. ev .events-of .ensures n ts us (fits i) b s) (mv .moved .result) (mv .moved .ensures) (a .next))
 
 pub finished-spec : {M : Type 1} → statement M
 finished-spec =

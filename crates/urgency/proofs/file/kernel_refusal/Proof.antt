@@ -1,4 +1,4 @@
--- By the test, and by whether they are the same.
+-- By the test, and by whether both are the same.
 use borrow.Author.Needs.{needs}
 use borrow.Author.Tests.{not-true, not-false}
 use mathlib.Core.Path.{sym, _∙_}
@@ -14,12 +14,23 @@ is-same-requires c κs = search needs
 returns-2 : tie.Need-returns-2
 returns-2 c =
     let s = c .before in
-    rw (not-false (s .before .before .args .ok) (s .before .if1 .left), sym (s .is-same .ensures) ∙ c .if2 .taken)
+    rw (not-false (s .before .before .args .ok) (s .before .if1 .left), sym (s .is-same .ensures) ∙ not-true _ (c .if2 .taken))
+
+is-same-requires-2 : tie.Need-is-same-requires-2
+is-same-requires-2 c κs = search needs
 
 returns-3 : tie.Need-returns-3
 returns-3 c =
-    let s = c .before in
-    rw (not-false (s .before .before .args .ok) (s .before .if1 .left), sym (s .is-same .ensures) ∙ c .if2 .left)
+    let n = c .before in
+    let s = n .before .before in
+    rw (not-false (s .before .before .args .ok) (s .before .if1 .left), sym (s .is-same .ensures) ∙ not-false _ (n .before .if2 .left), sym (n .is-same2 .ensures) ∙ c .if3 .taken)
+
+returns-4 : tie.Need-returns-4
+returns-4 c =
+    let n = c .before in
+    let s = n .before .before in
+    rw (not-false (s .before .before .args .ok) (s .before .if1 .left), sym (s .is-same .ensures) ∙ not-false _ (n .before .if2 .left), sym (n .is-same2 .ensures) ∙ c .if3 .left)
 
 pub kernel-refusal-spec : {M : Type 1} → statement M
-kernel-refusal-spec = tie.close (tie.spec returns is-same-requires returns-2 returns-3)
+kernel-refusal-spec =
+    tie.close (tie.spec returns is-same-requires returns-2 is-same-requires-2 returns-3 returns-4)

@@ -1,4 +1,4 @@
--- Before the last instant each task has its turn or stays as it is; at it the tick is refused.
+-- Each task has its turn or stays as it is.
 use borrow.Author.Needs.{needs}
 use mathlib.Core.Path.{_≡_, sym, _∙_, ap, ap₂, subst}
 use mathlib.Core.Logic.{⊎-elim}
@@ -9,21 +9,19 @@ use native.Mathlib.Omega.{arith}
 use lib.ListN.{length}
 use Rattle.calendar.specs.Limits.{day, lastInstant}
 use Rattle.calendar.specs.declared.Instant.{Instant}
-use Rattle.layout.specs.declared.Mark.the-variants.{TI}
-use Rattle.layout.specs.declared.Call.{Call}
 use Rattle.lock.proofs.Bools.{neither}
 use Rattle.task.specs.Turns.{tickTurn}
 use Rattle.task.proofs.Laws.{still}
 use Rattle.task.specs.State.{runnable}
 use Rattle.task.specs.declared.Turn.{Turn}
-use Rattle.machine.specs.State.{mostTasks, taskAt, withState, begunAt, placeAt, withRunning}
+use Rattle.machine.specs.State.{mostTasks, taskAt, withState, begunAt, placeAt, withFile}
 use Rattle.machine.specs.Running.{runningOf}
+use Rattle.machine.specs.NextEvent.{nextAmong}
 use Rattle.machine.specs.Serving.{nextServed}
 use Rattle.machine.specs.Work.{everyTurn}
 use Rattle.machine.specs.Test.{valid}
-use Rattle.machine.specs.Refusals.{stateRefusal}
-use Rattle.machine.specs.Calls.{tick}
-use Rattle.machine.specs.Step.{finish, refuse, orRefuse}
+use Rattle.machine.specs.Calls.{arrive}
+use Rattle.machine.specs.Step.{finish}
 use Rattle.machine.specs.declared.State.{State}
 use Rattle.machine.specs.declared.Running.{Running}
 use Rattle.machine.specs.declared.Running.the-variants.{Idle}
@@ -36,49 +34,45 @@ use Rattle.sets.proofs.SetTill.{Till, till-none, till-more, till-still, unlike}
 use Rattle.sets.specs.Standing.{turnedIf, Turned}
 use Rattle.waiters.specs.Served.{served}
 use Rattle.serving.specs.Ends.{answerOf}
-use Rattle.serving.proofs.EveryTask.{Made, made-none, made-all, made-more, made-still, task-now, Steady, steady-more, steady-still, tick-keeps, everyDone, every-waits, every-idle, every-unserved, every-served, tick-early, tick-late}
+use Rattle.serving.proofs.EveryTask.{Made, made-none, made-all, made-more, made-still, task-now, Steady, steady-more, steady-still, tick-keeps, everyDone, every-waits, every-idle, every-unserved, every-served}
 use Rattle.ticks.proofs.StirLaws.{nothing-comes}
 use Rattle.ticks.proofs.TickRuns.{Leading, leading-none, leading-from, leading-more, leading-still, runs-below}
-use Rattle.ticks.proofs.ticked.Statement.{statement}
+use Rattle.ticks.proofs.arrived.Statement.{statement}
 use Rattle.ticks.proofs.TickEnds.{turns, unturned, places-apart, turned-moves, turned-all, turned-leads}
-use Rattle.ticks.proofs.ticked.Tie as tie
+use Rattle.ticks.proofs.arrived.Tie as tie
 
 abbrev Inv-loop : tie.InvT-loop
-Inv-loop k₀ n counts most s₀ altered₀ turned₀ lead₀ i₀ k s altered turned lead i =
+Inv-loop n k₀ counts most s₀ altered₀ turned₀ lead₀ i₀ k s altered turned lead i =
     (i ≤ most) × Made (tickTurn n) k₀ i k s × Leading (k₀ .places) turned (k .tasks) (k₀ .counts .tasks) lead × (altered ≡ false → Steady (tickTurn n) (k₀ .tasks) i) × Till (turns n k₀) i turned
 
 abbrev μ-loop : tie.MeasureT-loop
-μ-loop k₀ n counts most s₀ altered₀ turned₀ lead₀ i₀ k s altered turned lead i = most - i
+μ-loop n k₀ counts most s₀ altered₀ turned₀ lead₀ i₀ k s altered turned lead i = most - i
 
 -- ---- what is known on the way
 
--- Where the instant that the tick comes to has been found.
 abbrev P : Type 0
-P = tie.After-plus Inv-loop μ-loop
-
-abbrev start : P → tie.Start Inv-loop μ-loop
-start p = p .before .before .before .before
+P = tie.Start Inv-loop μ-loop
 
 abbrev state : P → State
-state p = start p .args .t1
+state p = p .args .t1
 
 abbrev moment : P → Instant
-moment p = p .plus .result
+moment p = p .args .n
 
 good : (p : P) → Owned (state p)
-good p = (start p .good .0 .0, start p .good .0 .1 .1)
+good p = (p .good .0 .0, p .good .0 .1 .1)
 
 passes : (p : P) → valid day (state p) ≡ true
-passes p = start p .pre .0
+passes p = p .pre .0
 
 fits : (p : P) → state p .counts .tasks ≤ mostTasks
 fits p = tested day (state p) (passes p) .fits .tasks
 
 in-time : (p : P) → moment p .0 ≤ lastInstant
-in-time p = rw (p .plus .ensures) (omega (arith, p .before .if1 .left))
+in-time p = p .pre .1 .1
 
-runner-is : (p : P) {r : Running} → start p .args .r ≡ r → runningOf (state p .counts .tasks) (state p .places) (state p .tasks) ≡ r
-runner-is p e = sym (start p .pre .1) ∙ e
+runner-is : (p : P) {r : Running} → p .args .r ≡ r → runningOf (state p .counts .tasks) (state p .places) (state p .tasks) ≡ r
+runner-is p e = sym (p .pre .1 .0) ∙ e
 
 -- Where a task runs.
 below : (c : tie.After-known-told Inv-loop μ-loop) → c .before .r .given .0 .0 < mostTasks
@@ -102,7 +96,7 @@ less c = omega (arith, tasks-long (state (passed c)) (good (passed c)), inside c
 
 -- Once task i has had its turn, or has been passed over.
 abbrev J : Type 0
-J = tie.Joined2 Inv-loop μ-loop
+J = tie.Joined1 Inv-loop μ-loop
 
 abbrev here : J → I
 here c = c .before .before .before .before .before .before
@@ -112,7 +106,7 @@ standing : (l : I) (b : Bool) → cond b mostTasks (placeAt (l .before .loop .k 
 standing l b = ap (λ (q : State). cond b mostTasks (placeAt (q .places) (l .before .loop .i))) (l .before .loop .inv .1 .state)
 
 made : (c : J) → let l = here c in
-    Made (tickTurn (moment (passed l))) (state (passed l)) (l .before .loop .i + 1) (c .if2 .k) (c .if2 .s)
+    Made (tickTurn (moment (passed l))) (state (passed l)) (l .before .loop .i + 1) (c .if1 .k) (c .if1 .s)
 made c =
     let l = here c in
     let k = state (passed l) in
@@ -123,9 +117,9 @@ made c =
     ⊎-elim
     (λ w. made-more f k i (less l) (l .before .loop .inv .1) (w .2 .result) (w .2 .ensures) (w .12) (w .13 ∙ w .4 .ensures))
     (λ w. made-still f k i (less l) (l .before .loop .inv .1) (still n t (nothing-comes n t (sym (c .before .may-come .ensures) ∙ w .0 .left))) (w .1) (w .2))
-    (c .if2 .came)
+    (c .if1 .came)
 
-led : (c : J) → let l = here c in let k = state (passed l) in Leading (k .places) (c .if2 .turned) (c .if2 .k .tasks) (k .counts .tasks) (c .if2 .lead)
+led : (c : J) → let l = here c in let k = state (passed l) in Leading (k .places) (c .if1 .turned) (c .if1 .k .tasks) (k .counts .tasks) (c .if1 .lead)
 led c =
     let l = here c in
     let p = passed l in
@@ -139,9 +133,9 @@ led c =
     h (ap (λ (q : State). q .tasks) (w .12)) (w .6 .ensures) (unlike (w .7 .result) (w .6 .result) ∙ ap₂ turnedIf (w .7 .ensures) (w .6 .ensures))
     (w .15 ∙ w .8 .ensures) (w .10 .ensures ∙ standing l (not (Bool·beq (w .7 .result) (w .6 .result)))) (w .11 .ensures) (w .16))
     (λ w. leading-still h (ap (λ (q : State). q .tasks) (w .1)) (w .4) (w .5))
-    (c .if2 .came)
+    (c .if1 .came)
 
-till : (c : J) → let l = here c in Till (turns (moment (passed l)) (state (passed l))) (l .before .loop .i + 1) (c .if2 .turned)
+till : (c : J) → let l = here c in Till (turns (moment (passed l)) (state (passed l))) (l .before .loop .i + 1) (c .if1 .turned)
 till c =
     let l = here c in
     let k = state (passed l) in
@@ -153,10 +147,10 @@ till c =
     ⊎-elim
     (λ w. till-more _ (o .inv .4) (unlike (w .7 .result) (w .6 .result) ∙ ap₂ turnedIf (w .7 .ensures ∙ ap runnable same) (w .6 .ensures ∙ ap (λ (u : Turn). runnable (u .task)) (w .2 .ensures ∙ ap f same))) (w .15 ∙ w .8 .ensures))
     (λ w. till-still _ (o .inv .4) (rw (← same, still n t (nothing-comes n t (sym (c .before .may-come .ensures) ∙ w .0 .left))) (unturned (runnable t))) (w .4))
-    (c .if2 .came)
+    (c .if1 .came)
 
 steady : (c : J) → let l = here c in
-    c .if2 .altered ≡ false → Steady (tickTurn (moment (passed l))) (state (passed l) .tasks) (l .before .loop .i + 1)
+    c .if1 .altered ≡ false → Steady (tickTurn (moment (passed l))) (state (passed l) .tasks) (l .before .loop .i + 1)
 steady c e =
     let l = here c in
     let k = state (passed l) in
@@ -170,7 +164,7 @@ steady c e =
     let x = neither (o .altered) (w .5 .result) (sym (w .14) ∙ e) in
     steady-more f (k .tasks) (o .i) (o .inv .3 (x .0)) t (w .2 .result) same (w .2 .ensures) (w .5 .ensures) (x .1))
     (λ w. steady-still f (k .tasks) (o .i) (o .inv .3 (sym (w .3) ∙ e)) (rw (← same) (still n t (nothing-comes n t (sym (c .before .may-come .ensures) ∙ w .0 .left)))))
-    (c .if2 .came)
+    (c .if1 .came)
 
 -- Once all have.
 all : (c : tie.After-loop Inv-loop μ-loop) → let p = c .before .before .before .before .before .before .before in
@@ -181,27 +175,7 @@ all c =
     let l = c .before in
     made-all (tickTurn _) _ _ (le-antisymm (l .loop .inv .0) (c .loop-test .left)) (l .loop .inv .1)
 
--- Such a tick is not refused.
-accepted : (p : P) (d : Call) → let k = state p in
-    finish k (everyTurn k (moment p) (tickTurn (moment p))) ≡ orRefuse k (stateRefusal TI k d) (finish k (tick k))
-unfolding tick
-accepted p d =
-    let k = state p in
-    ap (λ (m : Instant). finish k (everyTurn k m (tickTurn m))) (p .plus .ensures) ∙ tick-early k d _ (p .before .if1 .left)
-
 -- ---- the needs
-
-answered-requires : tie.Need-answered-requires Inv-loop μ-loop
-answered-requires c κs = search needs
-
-returns : tie.Need-returns Inv-loop μ-loop
-returns c =
-    let s = c .before .before .before .before in
-    let k = s .args .t1 in
-    λ d. c .answered .ensures ∙ ap (λ (r : Running). refuse k 15 r) (s .pre .1) ∙ tick-late k d _ (c .before .if1 .taken)
-
-plus-requires : tie.Need-plus-requires Inv-loop μ-loop
-plus-requires c κs = search needs
 
 cast-most : tie.Need-cast-most Inv-loop μ-loop
 cast-most c = search needs
@@ -305,13 +279,18 @@ loop-less c = search needs
 loop-again : tie.Need-loop-again Inv-loop μ-loop
 loop-again c = (search needs, made c, led c, steady c, till c)
 
+next-event-requires : tie.Need-next-event-requires Inv-loop μ-loop
+next-event-requires c κs =
+    let p = c .before .before .before .before .before .before .before in
+    rw (all c .0) (fits p)
+
 who-requires : tie.Need-who-requires Inv-loop μ-loop
 who-requires c κs = search needs
 
 -- The waits are in order once all have had their turns.
 finished-requires : tie.Need-finished-requires Inv-loop μ-loop
 finished-requires c κs =
-    let a = c .before .before in
+    let a = c .before .before .before in
     let p = a .before .before .before .before .before .before .before in
     let k = state p in
     let n = moment p in (
@@ -320,14 +299,14 @@ finished-requires c κs =
     )
 
 moved-requires : tie.Need-moved-requires Inv-loop μ-loop
-moved-requires c κs = fits (c .before .before .before .before .before .before .before .before .before .before)
+moved-requires c κs = fits (c .before .before .before .before .before .before .before .before .before .before .before)
 
 -- Where the waiting tasks have been served, if that is needed.
 abbrev E : Type 0
-E = tie.Joined3 Inv-loop μ-loop
+E = tie.Joined2 Inv-loop μ-loop
 
 abbrev over : E → tie.After-loop Inv-loop μ-loop
-over c = c .before .before
+over c = c .before .before .before
 
 abbrev from : E → P
 from c = over c .before .before .before .before .before .before .before
@@ -351,7 +330,7 @@ every-turn c =
     rw (le-antisymm (l .loop .inv .0) (c .loop-test .left)) at (l .loop .inv .4)
 
 ends : (c : E) → let k = state (from c) in let n = moment (from c) in
-    record { state = begunAt n (withRunning (c .if3 .runner) (c .if3 .k)); answer = answerOf 0 (c .if3 .runner) (c .if3 .s) } ≡ finish k (everyTurn k n (tickTurn n))
+    record { state = begunAt n (withFile (record { running = c .if2 .runner; next = c .before .before .next-event .result }) (c .if2 .k)); answer = answerOf 0 (c .if2 .runner) (c .if2 .s) } ≡ finish k (everyTurn k n (tickTurn n))
 ends c =
     let p = from c in
     let k = state p in
@@ -361,13 +340,14 @@ ends c =
     let w = all (over c) in
     let t = every-turn (over c) in
     let long = tasks-long k (good p) in
+    let x = c .before .before .next-event .ensures ∙ ap (λ (q : State). nextAmong n (q .counts .tasks) (l .k .tasks)) (w .0) in
     ⊎-elim
-    (λ z. every-served k n f (w .0) (w .1) (z .1 .ensures (k .tasks) (subst (λ (q : State). Turned (q .counts .tasks) (k .tasks) (q .tasks) (record { runnable = l .turned; waiting = 0 })) (sym (w .0)) (turned-all day k (passes p) long n (l .turned) t))) (z .5) (z .6) (z .7))
+    (λ z. every-served k n f (w .0) (w .1) (z .1 .ensures (k .tasks) (subst (λ (q : State). Turned (q .counts .tasks) (k .tasks) (q .tasks) (record { runnable = l .turned; waiting = 0 })) (sym (w .0)) (turned-all day k (passes p) long n (l .turned) t))) (z .5) (z .6) (z .7) x)
     (λ z.
     let o = turned-moves day k (passes p) long n (l .turned) t (z .2 .ensures ∙ ap (λ (q : State). moved (k .counts .tasks) (λ i. holds i (l .turned)) (q .places)) (w .0)) in
     every-unserved k n f (w .0) (z .4 ∙ w .1) (idle c (z .0 .left)) o
-    (z .5 ∙ c .before .who .ensures ∙ turned-leads day k (passes p) long n (l .turned) t (tables-long k (good p) .places) (subst (λ (q : State). Leading (k .places) (l .turned) (q .tasks) (k .counts .tasks) (l .lead)) (w .0) (l .inv .2)) o) (z .3))
-    (c .if3 .came)
+    (z .5 ∙ c .before .who .ensures ∙ turned-leads day k (passes p) long n (l .turned) t (tables-long k (good p) .places) (subst (λ (q : State). Leading (k .places) (l .turned) (q .tasks) (k .counts .tasks) (l .lead)) (w .0) (l .inv .2)) o) (z .3) x)
+    (c .if2 .came)
 
 begun-at-requires : tie.Need-begun-at-requires Inv-loop μ-loop
 begun-at-requires c κs = search needs
@@ -375,18 +355,16 @@ begun-at-requires c κs = search needs
 answer-of-requires : tie.Need-answer-of-requires Inv-loop μ-loop
 answer-of-requires c κs = search needs
 
-returns-2 : tie.Need-returns-2 Inv-loop μ-loop
-returns-2 c = let e = c .before .before in λ d. rw (c .answer-of .ensures, c .before .begun-at .ensures) (ends e) ∙ accepted (from e) d
+returns : tie.Need-returns Inv-loop μ-loop
+unfolding arrive
+returns c = rw (c .answer-of .ensures, c .before .begun-at .ensures) (ends (c .before .before))
 
-pub ticked-spec : {M : Type 1} → statement M
-ticked-spec =
+pub arrived-spec : {M : Type 1} → statement M
+arrived-spec =
     tie.close
     (tie.spec
     Inv-loop
     μ-loop
-    answered-requires
-    returns
-    plus-requires
     cast-most
     no-sets-requires
     no-lead-requires
@@ -417,9 +395,10 @@ ticked-spec =
     add-i
     loop-less
     loop-again
+    next-event-requires
     who-requires
     finished-requires
     moved-requires
     begun-at-requires
     answer-of-requires
-    returns-2)
+    returns)
