@@ -62,6 +62,9 @@ module _ (x : Instant) (ts us : List Task) where
       ∙ ap₂ (λ (a b : Moment). earlier a b) (e n (omega arith)) (among-alike n (λ i l. e i (omega arith)))
       ∙ sym (first-append x (pendings (taskAt us n)) (allPending n us))
 
+  pub among-same : (n : ℕ) → ((i : ℕ) → i < n → taskAt ts i ≡ taskAt us i) → nextAmong x n ts ≡ nextAmong x n us
+  among-same n e = among-alike n (λ i l. ap (λ (t : Task). firstAfter x (pendings t)) (e i l))
+
 -- An instant that comes by l.
 pub instant-by : (l : ℕ) (n : Instant) (m : Moment) → comesBy l m ≡ true → instantOr n m .0 ≤ l
 instant-by l n Never e = contra e refl

@@ -22,7 +22,9 @@ ghost use Rattle.layout.specs.declared.Call.{Call};
 use calendar::Duration;
 use calendar::Instant;
 use calendar::Moment;
-use coming::next_event;
+use coming::moment_of;
+use coming::sooner_due;
+use coming::sooner_end;
 use layout::Mark;
 use lock::Wait;
 use lock::is_waiting;
@@ -63,22 +65,43 @@ fn is_altered(wait: Wait, before: u8, after: u8) -> bool
     is_waiting(wait) & (after != before)
 }
 
-// At n each declared task has its turn: those that something may come to; the others stay as they are. A task that can
-// run keeps its priority, so the one that ran or one that had its turn runs. Those that a turn makes runnable have an
-// event, and no others, so they stand behind all of their priority. No turn begins or ends a wait, so somebody is to be
-// served only if one who waits has another priority. All of them end at one place: a second one would cost each a copy
-// of the kernel.
-fn arrived(mut k: State, r: Running, n: Instant) -> Stepped
+// Where TI and SL arrive: one tick later, or at the next event.
+fn arrival(mark: Mark, now: Instant, next: Moment) -> Instant
+    requires { ⌜ now .0 ≤ lastInstant ⌝ }
+    ensures { λ n. ⌜ n ≡ cond (is mark SL) (instantOr now next) (plus now (duration tick)) ⌝ }
+{
+    match mark {
+        Mark::SL => next.instant_or(now),
+        _ => now.plus(Duration(1)),
+    }
+}
+
+// TI or SL: refused, or at the instant that it arrives at each declared task has its turn: those that something may come
+// to; the others stay as they are. A task that can run keeps its priority, so the one that ran or one that had its turn
+// runs. Those that a turn makes runnable have an event, and no others, so they stand behind all of their priority. No
+// turn begins or ends a wait, so somebody is to be served only if one who waits has another priority. What comes next is
+// found on the way. All of them end at one place: a second one would cost each a copy of the kernel.
+pub fn passed(mut k: State, mark: Mark, r: Running) -> Stepped
+    requires { ⌜ sortOf mark ≡ EveryTask ⌝ }
     requires { ⌜ valid day k ≡ true ⌝ }
     requires { ⌜ r ≡ runner k ⌝ }
-    requires { ⌜ n .0 ≤ lastInstant ⌝ }
-    ensures { λ s. ⌜ s ≡ finish k (arrive k n) ⌝ }
+    requires { ⌜ k .file .next ≡ nextEvent k ⌝ }
+    ensures { λ s. ⌜ ((c : Call) → s ≡ orRefuse k (stateRefusal mark k c) (finish k (arrive k (arrival mark k)))) ⌝ }
 {
+    let now = k.now;
+    let file = k.file;
+    let next = file.next;
+    let number = time_refusal(mark, now, next);
+    if number != 0 {
+        return answered(k, number, r);
+    }
+    let n = arrival(mark, now, next);
     let counts = k.counts;
     let most = counts.tasks as usize;
     let mut s = no_sets();
     let mut altered = false;
     let mut turned = 0;
+    let mut soonest = 0;
     let mut lead = no_lead();
     if let Running::Runs(j) = r {
         let at = j as usize;
@@ -103,8 +126,14 @@ fn arrived(mut k: State, r: Running, n: Instant) -> Stepped
             turned = put_if(i, late, turned);
             lead = lead.against_if(runs, after.current, place_if(late, k.places[i]), i);
         }
+        let t = k.tasks[i];
+        let hold = t.hold;
+        let schedule = t.schedule;
+        let alarm = schedule.alarm;
+        soonest = sooner_due(soonest, n, t.continuation);
+        soonest = sooner_end(sooner_due(soonest, n, alarm), n, hold);
     }
-    let next = next_event(k, n);
+    let next = moment_of(soonest);
     let mut runner = lead.who();
     if altered {
         let z = finished(
@@ -133,33 +162,4 @@ fn arrived(mut k: State, r: Running, n: Instant) -> Stepped
         state: begun_at(k, n),
         answer: answer_of(0, runner, s),
     }
-}
-
-// Where TI and SL arrive: one tick later, or at the next event.
-fn arrival(mark: Mark, now: Instant, next: Moment) -> Instant
-    requires { ⌜ now .0 ≤ lastInstant ⌝ }
-    ensures { λ n. ⌜ n ≡ cond (is mark SL) (instantOr now next) (plus now (duration tick)) ⌝ }
-{
-    match mark {
-        Mark::SL => next.instant_or(now),
-        _ => now.plus(Duration(1)),
-    }
-}
-
-// TI or SL: refused, or each task has its turn at the instant that it arrives at.
-pub fn passed(k: State, mark: Mark, r: Running) -> Stepped
-    requires { ⌜ sortOf mark ≡ EveryTask ⌝ }
-    requires { ⌜ valid day k ≡ true ⌝ }
-    requires { ⌜ r ≡ runner k ⌝ }
-    requires { ⌜ k .file .next ≡ nextEvent k ⌝ }
-    ensures { λ s. ⌜ ((c : Call) → s ≡ orRefuse k (stateRefusal mark k c) (finish k (arrive k (arrival mark k)))) ⌝ }
-{
-    let now = k.now;
-    let file = k.file;
-    let next = file.next;
-    let number = time_refusal(mark, now, next);
-    if number != 0 {
-        return answered(k, number, r);
-    }
-    arrived(k, r, arrival(mark, now, next))
 }
