@@ -43,7 +43,7 @@ use serving::ends::finished;
 use serving::ends::no_sets;
 use sets::nobody_turned;
 use sets::put_marks;
-use ticks::passed;
+use ticks::arrived;
 use urgency::file::kernel_refusal;
 
 // A call about task i and the locks: what refuses it, or what it does.
@@ -99,7 +99,7 @@ pub fn step_on(k: State, s: &[u8]) -> Stepped
     let file = k.file;
     let r = file.running;
     if is_tick(s) {
-        return passed(k, Mark::TI, r);
+        return arrived(k, Mark::TI, r);
     }
     let counts = k.counts;
     let reading = admit(counts, k.begun, s);
@@ -114,7 +114,7 @@ pub fn step_on(k: State, s: &[u8]) -> Stepped
         return declared(k, head);
     }
     if is_ticking(sort) {
-        return passed(k, mark, r);
+        return arrived(k, mark, r);
     }
     if !is_about_one(sort) {
         return interrupted(k, head);

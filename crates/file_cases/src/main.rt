@@ -1,5 +1,5 @@
-// Hands kernels with this or that task and next event on file to the methods, as a program could, and prints their lines.
-// stdout has the lines that document 02 gives.
+// Hands kernels with this or that task and next event on file to the methods, as a program could, and prints their
+// lines. stdout has those that document 02 gives.
 ghost use mathlib.Core.Path.{_≡_};
 ghost use Rattle.machine.specs.State.{withFile};
 use calendar::Instant;
@@ -107,8 +107,8 @@ fn declared() {
     show_running(kernel);
 }
 
-// Task 0 starts at 3. On file: none, the ticks before and after it, the present instant, one above 2^42, which is handed
-// out as it is, and then 3. After the sleep nothing is to come: 3, which is now, and 5 are wrong, none is right.
+// Task 0 starts at 3. On file: none, the ticks before and after it, the present instant, one above 2^42, which is
+// handed out as it is, and then 3. After the sleep nothing is to come: 3, which is now, and 5 are wrong, none is right.
 fn one_comes() {
     let mut kernel = Kernel::fresh();
     kernel = show(kernel.declare_task(5));

@@ -14,7 +14,7 @@ use Rattle.calendar.specs.declared.Moment.{Moment}
 use Rattle.layout.specs.Marks.{among}
 use Rattle.layout.specs.Fields.{callOf, headOf, listOf, bytesOf}
 use Rattle.layout.specs.declared.Call.{Call}
-use Rattle.layout.specs.declared.Mark.the-variants.{TI}
+use Rattle.layout.specs.declared.Mark.the-variants.{TI, SL}
 use Rattle.lists.specs.Lists.{allZero}
 use Rattle.record.specs.Refusals.{uses, cleanNames, cleanStart, ranged, formed, listed, timed, shape, times}
 use Rattle.record.specs.Reading.{opened}
@@ -38,7 +38,7 @@ use Rattle.machine.specs.Refusals.{declaredBy, roomFor, formalRefusal, a
 use Rattle.machine.specs.Calls.{arrive, arrival, workBy}
 use Rattle.machine.specs.Step.{plainAnswer, finish, orRefuse, carryOut, settle, step}
 use Rattle.machine.specs.Log.{final, log}
-use Rattle.machine.specs.Scripts.{row, oneTick}
+use Rattle.machine.specs.Scripts.{row, oneTick, sleep}
 use Rattle.machine.specs.Quiet.{Quiet, later, TicksAreQuiet, QuietUpToNext}
 use Rattle.machine.proofs.Below.{mostUrgent-none}
 use Rattle.machine.proofs.NextEvent.{next-is-next, quiet-before, next-later}
@@ -79,11 +79,12 @@ pub next-after : (k : State) → Quiet 1 k → nextEvent (begunAt (plus (k .now)
 unfolding later
 next-after k q = next-later k 1 (quiet-before k 1 q)
 
--- Its record is well-formed for every kernel.
-tick-formed : (day : ℕ) (n : Counts) (b : Bool) → formalRefusal day n b (callOf TI oneTick) ≡ 0
+-- The records of a tick and of a sleep are well-formed for every kernel.
+pub time-formed : (day : ℕ) (n : Counts) (b : Bool)
+    → (formalRefusal day n b (callOf TI oneTick) ≡ 0) × (formalRefusal day n b (callOf SL sleep) ≡ 0)
 unfolding formalRefusal declares declaredBy roomFor shape times timed formed listed ranged cleanStart cleanNames uses allZero headOf listOf bytesOf
-tick-formed day n true = refl
-tick-formed day n false = refl
+time-formed day n true = (refl, refl)
+time-formed day n false = (refl, refl)
 
 module _ (day : ℕ) (k : State) (room : length (k .tasks) ≡ mostTasks) (v : kernelRefusal day k ≡ 0) where
   nobody-served : (g turns : ℕ)
@@ -131,7 +132,7 @@ module _ (day : ℕ) (k : State) (room : length (k .tasks) ≡ mostTasks) (v : k
   -- A tick, quiet or not.
   pub tick-step : (c : Call) → step day k oneTick ≡ orRefuse k (stateRefusal TI k c) (finish k (arrive k (plus (k .now) (duration 1))))
   unfolding step settle carryOut declares workBy arrival admittedIf refusalBy opened among headOf bytesOf
-  tick-step c = rw (v, tick-formed day (k .counts) (k .begun))
+  tick-step c = rw (v, time-formed day (k .counts) (k .begun) .0)
 
   pub quiet-step : Quiet 1 k → k .now .0 < lastInstant
       → step day k oneTick

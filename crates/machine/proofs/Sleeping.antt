@@ -1,6 +1,6 @@
 -- A sleep is so many ticks.
 use mathlib.Core.Path.{_≡_, refl, sym, ap, subst, _∙_}
-use mathlib.Core.Bool.{Bool, true, false}
+use mathlib.Core.Bool.{true, false}
 use mathlib.Core.List.{List}
 use Prim.Native.Nat.{ℕ, zero, suc, _+_, _-_, _≤_, _<_}
 use native.Mathlib.Omega.{arith}
@@ -13,13 +13,10 @@ use Rattle.calendar.specs.declared.Instant.{Instant}
 use Rattle.calendar.specs.declared.Moment.{Moment}
 use Rattle.calendar.specs.declared.Moment.the-variants.{Never, At}
 use Rattle.layout.specs.Marks.{among}
-use Rattle.layout.specs.Fields.{callOf, headOf, listOf, bytesOf}
+use Rattle.layout.specs.Fields.{callOf, headOf, bytesOf}
 use Rattle.layout.specs.declared.Call.{Call}
 use Rattle.layout.specs.declared.Mark.the-variants.{TI, SL}
-use Rattle.lists.specs.Lists.{allZero}
-use Rattle.record.specs.Refusals.{uses, cleanNames, cleanStart, ranged, formed, listed, timed, shape, times}
 use Rattle.record.specs.Reading.{opened}
-use Rattle.machine.specs.declared.Counts.{Counts}
 use Rattle.machine.specs.declared.State.{State}
 use Rattle.machine.specs.State.{mostTasks}
 use Rattle.task.specs.Coming.{pendings}
@@ -28,7 +25,7 @@ use Rattle.machine.specs.Work.{Work, everyTurn}
 use Rattle.machine.specs.Serving.{Served}
 use Rattle.machine.specs.Test.{kernelRefusal}
 use Rattle.machine.specs.Sorts.{declares}
-use Rattle.machine.specs.Refusals.{declaredBy, roomFor, formalRefusal, admittedIf, refusalBy, stateRefusal}
+use Rattle.machine.specs.Refusals.{admittedIf, refusalBy, stateRefusal}
 use Rattle.machine.specs.Calls.{arrive, arrival, workBy}
 use Rattle.machine.specs.Step.{refuse, finish, orRefuse, carryOut, settle, step}
 use Rattle.machine.specs.Log.{final}
@@ -38,7 +35,7 @@ use Rattle.machine.specs.Sleeping.{FiledIsNext, NoneIsForGood, Slept, Sl
 use Rattle.machine.proofs.Filing.{taken-next}
 use Rattle.machine.proofs.NextEvent.{pending-alike, next-is-next}
 use Rattle.machine.proofs.Accepted.{serving-keeps}
-use Rattle.machine.proofs.Quiet.{tick-step, later-as, quiet-up-to-next}
+use Rattle.machine.proofs.Quiet.{time-formed, tick-step, later-as, quiet-up-to-next}
 
 -- ---- on file
 
@@ -63,17 +60,11 @@ finish-next k w =
 
 -- ---- one sleep
 
--- Its record is well-formed for every kernel.
-sleep-formed : (day : ℕ) (n : Counts) (b : Bool) → formalRefusal day n b (callOf SL sleep) ≡ 0
-unfolding formalRefusal declares declaredBy roomFor shape times timed formed listed ranged cleanStart cleanNames uses allZero headOf listOf bytesOf
-sleep-formed day n true = refl
-sleep-formed day n false = refl
-
 module _ (day : ℕ) (k : State) (v : kernelRefusal day k ≡ 0) where
   -- A sleep, refused or not.
   pub sleep-step : (c : Call) → step day k sleep ≡ orRefuse k (stateRefusal SL k c) (finish k (arrive k (instantOr (k .now) (nextEvent k))))
   unfolding step settle carryOut declares workBy arrival admittedIf refusalBy opened among headOf bytesOf
-  sleep-step c = rw (v, sleep-formed day (k .counts) (k .begun))
+  sleep-step c = rw (v, time-formed day (k .counts) (k .begun) .1)
 
   pub sleep-to : (x : Instant) → nextEvent k ≡ At x → x .0 ≤ lastInstant → step day k sleep ≡ finish k (arrive k x)
   unfolding refusalBy

@@ -59,8 +59,8 @@ fn line_if(show: bool, a: Answer, out: &mut [u8], at: usize) -> usize
     at
 }
 
-// The script over bytes, with as many lines as there is room for in out. A tick to an instant before the next event, which
-// is on file, only moves the present.
+// The script over bytes, with as many lines as there is room for in out. A tick to an instant before the next event,
+// which is on file, only moves the present.
 pub fn run(script: Script, bytes: &[u8], out: &mut [u8]) -> Ran
     ensures { λ r. ⌜ Runs day script (now (bytes .entry)) (now (out .entry)) (now (out .exit)) r ⌝ }
 {

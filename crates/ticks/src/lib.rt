@@ -76,12 +76,12 @@ fn arrival(mark: Mark, now: Instant, next: Moment) -> Instant
     }
 }
 
-// TI or SL: refused, or at the instant that it arrives at each declared task has its turn: those that something may come
-// to; the others stay as they are. A task that can run keeps its priority, so the one that ran or one that had its turn
-// runs. Those that a turn makes runnable have an event, and no others, so they stand behind all of their priority. No
-// turn begins or ends a wait, so somebody is to be served only if one who waits has another priority. What comes next is
-// found on the way. All of them end at one place: a second one would cost each a copy of the kernel.
-pub fn passed(mut k: State, mark: Mark, r: Running) -> Stepped
+// TI or SL: refused, or at the instant that it arrives at each declared task has its turn: those that something may
+// come to; the others stay as they are. A task that can run keeps its priority, so the one that ran or one that had its
+// turn runs. Those that a turn makes runnable have an event, and no others, so they stand behind all of their priority.
+// No turn begins or ends a wait, so somebody is to be served only if one who waits has another priority. What comes next
+// is found on the way. All of them end at one place: a second one would cost each a copy of the kernel.
+pub fn arrived(mut k: State, mark: Mark, r: Running) -> Stepped
     requires { ⌜ sortOf mark ≡ EveryTask ⌝ }
     requires { ⌜ valid day k ≡ true ⌝ }
     requires { ⌜ r ≡ runner k ⌝ }

@@ -82,8 +82,8 @@ sort-at c = c .before .before .before .before .before .before
 about : (c : tie.Else4) → aboutOne (sort-at c .sort-of .result) ≡ true
 about c = sym (c .before .is-about-one .ensures) ∙ not-false (c .before .is-about-one .result) (c .if4 .left)
 
-passed-requires : tie.Need-passed-requires
-passed-requires c κs = let s = c .before .before .before .before in (refl, (valid-at s, (runs-at s, next-at s)))
+arrived-requires : tie.Need-arrived-requires
+arrived-requires c κs = let s = c .before .before .before .before in (refl, (valid-at s, (runs-at s, next-at s)))
 
 -- The sort is about every task.
 timed : (c : tie.Then3) → sortOf (head (c .before .before .before .before .before) .mark) ≡ EveryTask
@@ -91,15 +91,15 @@ timed c =
     let t = c .before in
     sym (t .before .before .before .sort-of .ensures) ∙ tick-left _ (sym (t .is-ticking .ensures) ∙ c .if3 .taken)
 
-passed-requires-2 : tie.Need-passed-requires-2
-passed-requires-2 c κs = let s = start (c .before .before .before .before .before) in (timed c, (valid-at s, (runs-at s, next-at s)))
+arrived-requires-2 : tie.Need-arrived-requires-2
+arrived-requires-2 c κs = let s = start (c .before .before .before .before .before) in (timed c, (valid-at s, (runs-at s, next-at s)))
 
 returns : tie.Need-returns
 unfolding arrival
 returns c =
     let s = c .before .before .before .before .before in
     let a = s .args in
-    c .passed .ensures (callOf TI oneTick)
+    c .arrived .ensures (callOf TI oneTick)
     ∙ sym (tick-step day (a .k) (tasks-long (a .k) (s .good .0 .0, s .good .0 .1 .1)) (s .pre) (callOf TI oneTick))
     ∙ ap (step day (a .k)) (sym (tick-bytes (now (a .s)) (sym (c .before .before .is-tick .ensures) ∙ c .before .if1 .taken)))
 
@@ -127,7 +127,7 @@ returns-3 c =
 returns-4 : tie.Need-returns-4
 returns-4 c =
     let q = c .before .before .before .before .before .before in
-    c .passed2 .ensures (callWith (head q) (list q)) ∙ settled-time day (state q) (head q) (list q) (timed (c .before)) ∙ settled q
+    c .arrived2 .ensures (callWith (head q) (list q)) ∙ settled-time day (state q) (head q) (list q) (timed (c .before)) ∙ settled q
 
 interrupted-requires : tie.Need-interrupted-requires
 unfolding declaredBy
@@ -167,7 +167,7 @@ step-on-spec =
     tie.close
     (tie.spec
     (λ c κs. search needs)
-    passed-requires
+    arrived-requires
     returns
     (λ c κs. search needs)
     (λ c. search needs)
@@ -180,7 +180,7 @@ step-on-spec =
     declared-requires
     returns-3
     (λ c κs. search needs)
-    passed-requires-2
+    arrived-requires-2
     returns-4
     (λ c κs. search needs)
     interrupted-requires

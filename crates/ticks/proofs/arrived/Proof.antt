@@ -43,9 +43,9 @@ use Rattle.serving.proofs.EveryTask.{Made, made-none, made-all, made-more, made
 use Rattle.ticks.proofs.StirLaws.{nothing-comes}
 use Rattle.ticks.proofs.TimeLaws.{arrives, refused, accepted, arrives-in-time}
 use Rattle.ticks.proofs.TickRuns.{Leading, leading-none, leading-from, leading-more, leading-still, runs-below}
-use Rattle.ticks.proofs.passed.Statement.{statement}
+use Rattle.ticks.proofs.arrived.Statement.{statement}
 use Rattle.ticks.proofs.TickEnds.{turns, unturned, places-apart, turned-moves, turned-all, turned-leads}
-use Rattle.ticks.proofs.passed.Tie as tie
+use Rattle.ticks.proofs.arrived.Tie as tie
 
 abbrev Inv-loop : tie.InvT-loop
 Inv-loop k₀ number n counts most s₀ altered₀ turned₀ soonest₀ lead₀ i₀ k s altered turned soonest lead i =
@@ -444,8 +444,8 @@ returns-2 c =
     ∙ ap (λ (x : Instant). finish k (arrive k x)) (there p)
     ∙ accepted k (s .args .mark) (s .pre .0) (s .pre .1 .1 .1) (i .before .time-refusal .ensures) (i .if1 .left) d _
 
-pub passed-spec : {M : Type 1} → statement M
-passed-spec =
+pub arrived-spec : {M : Type 1} → statement M
+arrived-spec =
     tie.close
     (tie.spec
     Inv-loop
