@@ -59,6 +59,13 @@ def is_source(path):
     return path.endswith((".antt", ".rt"))
 
 
+def listed(root):
+    """The crates of crates.txt, in its order."""
+    with open(os.path.join(root, "crates.txt"), encoding="utf-8") as file:
+        lines = (line.split("#")[0] for line in file)
+        return [line.split(":")[0].strip() for line in lines if ":" in line]
+
+
 def entries(files):
     """What the crates declare. A proof file of a function is one entry; what only lists modules is none."""
     found = []
@@ -84,11 +91,19 @@ def entries(files):
 
 
 def of_source(crate, rest, file, text):
-    module = [] if rest[-1] in ("lib.rt", "main.rt") else [*rest[:-1], rest[-1].removesuffix(".rt")]
     for item in rattle.items(text):
-        # A method goes by its type, wherever its impl stands.
-        path = [item.name] if "::" in item.name or item.kind != "fn" else [*module, item.name]
-        yield Entry(crate, CONTRACT if item.kind == "fn" else DEFINITION, "::".join(path), file, item.tokens())
+        name = function_path(module_of(rest), item) if item.kind == "fn" else item.name
+        yield Entry(crate, CONTRACT if item.kind == "fn" else DEFINITION, name, file, item.tokens())
+
+
+def module_of(rest):
+    """The modules that a file of src/ stands for: none if it is the crate's own."""
+    return [] if rest[-1] in ("lib.rt", "main.rt") else [*rest[:-1], rest[-1].removesuffix(".rt")]
+
+
+def function_path(module, item):
+    """A method goes by its type, wherever its impl stands."""
+    return item.name if "::" in item.name else "::".join([*module, item.name])
 
 
 def mark_statements(files, found):

@@ -16,6 +16,7 @@ class Item:
     kind: str      # fn, struct, enum, const
     line: int
     text: str      # of a function its head and contract, without the body
+    last: int      # the line in which it ends, with its body
     members: list = field(default_factory=list)    # fields or variants
 
     def tokens(self):
@@ -34,6 +35,7 @@ def items(text):
             continue
         if ending is not None:                     # within an item
             if indent == ending and words.startswith("}"):
+                current.last = number
                 current = ending = None
             elif current.kind != "fn":
                 current.text += "\n" + line
@@ -46,7 +48,7 @@ def items(text):
                 ending = start
         elif match := ITEM.match(words):
             name = f"{owner}::{match.group(2)}" if owner and indent else match.group(2)
-            item = Item(name, match.group(1), number, line)
+            item = Item(name, match.group(1), number, line, number)
             found.append(item)
             if line.endswith("{"):
                 current, ending = item, indent

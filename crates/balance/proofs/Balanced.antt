@@ -9,7 +9,7 @@ use Rattle.lock.specs.Locks.{bit, waiting, boltAt, level}
 use Rattle.lock.specs.declared.Wait.{Wait}
 use Rattle.lock.specs.declared.Wait.the-variants.{Request, Reserve, Enter}
 use Rattle.lock.specs.declared.Bolt.{Bolt}
-use Rattle.lock.proofs.Bools.{contra, both}
+use Rattle.facts.proofs.Bools.{contra, both}
 use Rattle.lock.proofs.Levels.{Law, law-refl, law-trans}
 use Rattle.lock.proofs.Taking.{writer-le}
 use Rattle.lock.proofs.Exclusion.{Exclusive, exclusive-levels}
@@ -27,7 +27,7 @@ use Rattle.machine.proofs.Below.{mostUrgent-none}
 use Rattle.machine.proofs.Filing.{taken-valid}
 use Rattle.machine.proofs.Refused.{refusals-numbered}
 use Rattle.machine.proofs.Facts.{StateOk, passes-of-ok, ok-of-passes}
-use Rattle.balance.specs.Counting.{count, accepted, namesOf, noNames, returned, Asking, askedAfter, grants, Open, noneOpen, asksNow, openAt, openAfter, GrantsOpen, openFrom}
+use Rattle.balance.specs.Counting.{count, isAccepted, namesOf, noNames, returned, Asking, askedAfter, grants, Open, noneOpen, asksNow, openAt, openAfter, GrantsOpen, openFrom}
 use Rattle.balance.specs.Fresh.{acceptedDeclaration, without}
 use Rattle.balance.specs.Balance.{RightStep, AtEachRecord, Balance}
 use Rattle.balance.proofs.Steps.{Invariant, StepBooks, step-books}
@@ -73,7 +73,7 @@ module _ (day : ℕ) (isDay : IsDay day) where
       }
   booked (r ∷ rs) k last was h o q =
       let z = step day k r .state in
-      let p = both (not (accepted (step day k r .answer) && isDeclaration (opened r .answer))) (without acceptedDeclaration (log day z rs)) q in
+      let p = both (not (isAccepted (step day k r .answer) && isDeclaration (opened r .answer))) (without acceptedDeclaration (log day z rs)) q in
       let d = step-books day isDay k last was h r (o .0) (p .0) in
       let ih = booked rs z _ _ (d .next) (o .1) (p .1) in
       record {

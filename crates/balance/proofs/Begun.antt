@@ -10,12 +10,12 @@ use Rattle.record.specs.Reading.{callWith, opened}
 use Rattle.record.specs.declared.Read.{Read}
 use Rattle.record.specs.declared.Read.the-variants.{Refused, Accepted}
 use Rattle.layout.specs.declared.Call.{Call}
-use Rattle.lock.proofs.Bools.{byBool, contra, and-both}
+use Rattle.facts.proofs.Bools.{byBool, contra, and-both}
 use Rattle.machine.specs.declared.State.{State}
 use Rattle.machine.specs.declared.Stepped.{Stepped}
 use Rattle.machine.specs.Running.{runner}
 use Rattle.machine.specs.Sorts.{declares}
-use Rattle.machine.specs.Step.{refuse, finish, orRefuse, carryOut, carryOn, step}
+use Rattle.machine.specs.Step.{answered, finish, orRefuse, carryOut, carryOn, step}
 use Rattle.machine.specs.Log.{AllOctets, isDeclaration, log}
 use Rattle.machine.specs.Invariants.{IsDay}
 use Rattle.machine.proofs.Facts.{StateOk, passes-of-ok}
@@ -23,19 +23,19 @@ use Rattle.machine.proofs.Passed.{refusalOf, passed}
 use Rattle.machine.proofs.Opened.{opened-refused}
 use Rattle.machine.proofs.Cases.{done-number, carried-by, stepOpened, step-on}
 use Rattle.machine.proofs.Invariants.{step-ok}
-use Rattle.balance.specs.Counting.{accepted}
+use Rattle.balance.specs.Counting.{isAccepted}
 use Rattle.balance.specs.Fresh.{acceptedDeclaration, without}
 
 -- What a step says of the first accepted call; d: its record is a declaration.
 pub record Begins (k : State) (d : Bool) (s : Stepped) : Type 0 where
   -- an accepted call begins
-  pub begins : (accepted (s .answer) && not d) ≡ true → s .state .begun ≡ true
+  pub begins : (isAccepted (s .answer) && not d) ≡ true → s .state .begun ≡ true
   -- what has begun goes on, and no declaration is accepted
   pub goes-on : k .begun ≡ true → s .state .begun ≡ true
-  pub late : k .begun ≡ true → not (accepted (s .answer) && d) ≡ true
+  pub late : k .begun ≡ true → not (isAccepted (s .answer) && d) ≡ true
 
-refused-begins : (k : State) (d : Bool) (n : ℕ) → Begins k d (refuse k (suc n) (runner k))
-unfolding refuse
+refused-begins : (k : State) (d : Bool) (n : ℕ) → Begins k d (answered k (suc n) (runner k))
+unfolding answered
 refused-begins k d n =
     let no : eqb (suc n) 0 ≡ false = ne-eqb (suc n) 0 (λ z. omega arith) in
     record { begins = λ e. contra e (rw no); goes-on = λ b. b; late = λ b. rw no }

@@ -13,7 +13,7 @@ use Rattle.lock.specs.declared.Way.the-variants.{Take, Give}
 use Rattle.lock.specs.declared.Wait.{Wait}
 use Rattle.lock.specs.declared.Wait.the-variants.{Nothing}
 use Rattle.lock.specs.declared.Locks.{Locks}
-use Rattle.lock.proofs.Bools.{tests, byEq, contra}
+use Rattle.facts.proofs.Bools.{tests, byEq, contra}
 use Rattle.lock.proofs.Levels.{Law, Proper, size-refl}
 use Rattle.lock.proofs.Taking.{move-law}
 use Rattle.lock.proofs.Exclusion.{Exclusive, move-exclusive}
@@ -27,12 +27,13 @@ use Rattle.machine.specs.State.{taskAt, countOf}
 use Rattle.machine.specs.Running.{runner}
 use Rattle.machine.specs.Work.{Work, changed}
 use Rattle.machine.proofs.Works.{oneTurn, onlyLocks}
-use Rattle.machine.proofs.SetLaws.{unmarked-none, has-empty, has-one, has-other, pow-pos, pow-lt}
+use Rattle.machine.proofs.SetLaws.{unmarked-none, has-empty, has-one, has-other}
 use Rattle.machine.proofs.Facts.{StateOk, proper-list}
 use Rattle.machine.proofs.Done.{Role, asking, giving, Lists, Did, turned, everyone, quiet, gave, got, waits, tried, runs}
 use Rattle.balance.specs.Counting.{Named, Asking, counts, issuedBy, grantsIn}
 use Rattle.balance.proofs.Grants.{no-grants, one-grant, no-kind}
 use Rattle.balance.proofs.Works.{marked-as, still-marked, granted-marked, only-granted, Ties, asksIf, lastIf, WorkBooks, unmoved, none-granted, at-turn, at-other, one-marked, one-declared, turned-books, every-books}
+use Rattle.facts.proofs.Numbers.{pow-pos, pow-lt}
 
 module _ (day : ℕ) (k : State) (h : StateOk day k) (c : Call) (last : Asking) where
   abbrev n : ℕ

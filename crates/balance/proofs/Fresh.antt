@@ -13,7 +13,7 @@ use Rattle.record.specs.Reading.{callWith, opened}
 use Rattle.record.specs.declared.Read.{Read}
 use Rattle.record.specs.declared.Read.the-variants.{Refused, Accepted}
 use Rattle.lock.specs.Locks.{emptyBolt, boltAt}
-use Rattle.lock.proofs.Bools.{byBool, byEq, contra, both}
+use Rattle.facts.proofs.Bools.{byBool, byEq, contra, both}
 use Rattle.lock.proofs.Levels.{bolt-same, bolt-other}
 use Rattle.task.specs.State.{noTask}
 use Rattle.machine.specs.declared.State.{State}
@@ -24,7 +24,7 @@ use Rattle.machine.specs.Running.{runner}
 use Rattle.machine.specs.NextEvent.{fileOf}
 use Rattle.machine.specs.Sorts.{declares}
 use Rattle.machine.specs.Calls.{addTask, addSemaphore, addBolt, addInterrupt, declaration as declaredAs}
-use Rattle.machine.specs.Step.{refuse, declared, orRefuse, carryOut, step}
+use Rattle.machine.specs.Step.{answered, declared, orRefuse, carryOut, step}
 use Rattle.machine.specs.Log.{AllOctets, isDeclaration, final, log}
 use Rattle.machine.specs.Invariants.{IsDay}
 use Rattle.machine.proofs.Facts.{StateOk, passes-of-ok, ok-of-passes}
@@ -33,7 +33,7 @@ use Rattle.machine.proofs.Passed.{refusalOf, Passed, passed, as-mark, room-task
 use Rattle.machine.proofs.Opened.{opened-refused}
 use Rattle.machine.proofs.Cases.{done-number, declaration-cases, carried-by, stepOpened, step-on}
 use Rattle.machine.proofs.Invariants.{step-ok}
-use Rattle.balance.specs.Counting.{accepted}
+use Rattle.balance.specs.Counting.{isAccepted}
 use Rattle.balance.specs.Fresh.{acceptedCall, without, DeclaredIsFresh}
 
 -- A kernel whose declared places are as their declarations left them.
@@ -110,36 +110,36 @@ young-refiled d f y = record { instant = y .instant; unbegun = y .unbegun; tasks
 
 -- It is refused, or an accepted declaration.
 module _ (day : ℕ) (k : State) (h : StateOk day k) (s : List ℕ) (P : Read → Stepped → Type 0)
-    (refused : (r : Read) (n : ℕ) → P r (refuse k (suc n) (runner k)))
+    (refused : (r : Read) (n : ℕ) → P r (answered k (suc n) (runner k)))
     (done : (d : Head) (l : List ℕ) → Passed day (d .mark) k (callWith d l) → P (Accepted d) (declared k (declaredAs (d .mark) (callWith d l) k))) where
-  pub no-call : not (accepted (step day k s .answer) && not (isDeclaration (opened s .answer))) ≡ true → P (opened s .answer) (step day k s)
+  pub no-call : not (isAccepted (step day k s .answer) && not (isDeclaration (opened s .answer))) ≡ true → P (opened s .answer) (step day k s)
   no-call q = rw on (go (opened s .answer) refl (rw on at q))
     where
       on : step day k s ≡ stepOpened day k (opened s .answer) (opened s .list)
       on = step-on day k s (passes-of-ok day k h .tested)
 
       carried : (d : Head) (n : ℕ) → let c = callWith d (opened s .list) in
-          refusalOf day k c ≡ n → not (accepted (orRefuse k n (carryOut day k c) .answer) && not (declares (d .mark))) ≡ true
+          refusalOf day k c ≡ n → not (isAccepted (orRefuse k n (carryOut day k c) .answer) && not (declares (d .mark))) ≡ true
           → P (Accepted d) (orRefuse k n (carryOut day k c))
       carried d zero e z =
           let c = callWith d (opened s .list) in
           byBool (declares (d .mark)) (λ m. unfold carryOut in rw m (done d (opened s .list) (passed day k c e))) (λ m. contra z (rw (done-number day k c, m)))
       carried d (suc n) e z = refused (Accepted d) n
 
-      go : (r : Read) → opened s .answer ≡ r → not (accepted (stepOpened day k r (opened s .list) .answer) && not (isDeclaration r)) ≡ true → P r (stepOpened day k r (opened s .list))
+      go : (r : Read) → opened s .answer ≡ r → not (isAccepted (stepOpened day k r (opened s .list) .answer) && not (isDeclaration r)) ≡ true → P r (stepOpened day k r (opened s .list))
       go (Refused n) e z = rw (opened-refused s n e) (refused (Refused 2) 1)
       go (Accepted d) e z = let by = carried-by day k (callWith d (opened s .list)) in rw by (carried d _ refl (rw by at z))
 
 module _ (day : ℕ) (isDay : IsDay day) where
-  young-step : (k : State) → StateOk day k → Young k → (s : List ℕ) → not (accepted (step day k s .answer) && not (isDeclaration (opened s .answer))) ≡ true → Young (step day k s .state)
+  young-step : (k : State) → StateOk day k → Young k → (s : List ℕ) → not (isAccepted (step day k s .answer) && not (isDeclaration (opened s .answer))) ≡ true → Young (step day k s .state)
   young-step k h y s =
-      no-call day k h s (λ r z. Young (z .state)) (λ r n. unfold refuse in y) (λ d l p. unfold declared in young-refiled _ (fileOf k) (young-declared day k h y (callWith d l) p))
+      no-call day k h s (λ r z. Young (z .state)) (λ r n. unfold answered in y) (λ d l p. unfold declared in young-refiled _ (fileOf k) (young-declared day k h y (callWith d l) p))
 
   young-all : (rs : List (List ℕ)) (k : State) → StateOk day k → Young k → AllOctets rs → without acceptedCall (log day k rs) ≡ true → StateOk day (final day k rs) × Young (final day k rs)
   unfolding AllOctets without log final
   young-all [] k h y o q = (h, y)
   young-all (r ∷ rs) k h y o q =
-      let p = both (not (accepted (step day k r .answer) && not (isDeclaration (opened r .answer)))) _ q in
+      let p = both (not (isAccepted (step day k r .answer) && not (isDeclaration (opened r .answer)))) _ q in
       young-all rs (step day k r .state) (step-ok day isDay k h r (o .0)) (young-step k h y r (p .0)) (o .1) (p .1)
 
   -- ---- nothing declared

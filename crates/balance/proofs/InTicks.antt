@@ -20,10 +20,10 @@ use Rattle.layout.proofs.MarksLaws.{is-mark}
 use Rattle.record.specs.Reading.{callWith, opened}
 use Rattle.record.specs.declared.Read.{Read}
 use Rattle.record.specs.declared.Read.the-variants.{Refused, Accepted}
-use Rattle.lock.specs.Locks.{every}
+use Rattle.lists.specs.Lists.{every}
 use Rattle.lock.specs.declared.Wait.{Wait}
 use Rattle.lock.specs.declared.Wait.the-variants.{Nothing}
-use Rattle.lock.proofs.Bools.{tests, byBool, contra, both}
+use Rattle.facts.proofs.Bools.{tests, byBool, contra, both}
 use Rattle.machine.specs.declared.State.{State}
 use Rattle.machine.specs.declared.Answer.{Answer}
 use Rattle.machine.specs.declared.Running.{Running}
@@ -34,7 +34,7 @@ use Rattle.machine.specs.NextEvent.{nextEvent}
 use Rattle.machine.specs.Sorts.{declares}
 use Rattle.machine.specs.Refusals.{stateRefusal}
 use Rattle.machine.specs.Calls.{arrival, workBy}
-use Rattle.machine.specs.Step.{refuse, orRefuse, carryOut, step}
+use Rattle.machine.specs.Step.{answered, orRefuse, carryOut, step}
 use Rattle.machine.specs.Log.{AllOctets, isDeclaration, Entry, final, log}
 use Rattle.machine.specs.Invariants.{IsDay, Passes}
 use Rattle.machine.specs.Scripts.{row, oneTick, sleep}
@@ -46,7 +46,7 @@ use Rattle.machine.proofs.Passed.{refusalOf, unrefused, passed, as-mark}
 use Rattle.machine.proofs.Cases.{carried-by, stepOpened, step-on}
 use Rattle.machine.proofs.Invariants.{step-passes}
 use Rattle.machine.proofs.Sleeping.{sleep-step, sleep-is-ticks}
-use Rattle.balance.specs.Counting.{Asking, count, accepted, asks, gives, namesOf, returned, askedAfter, grantsIn, grants}
+use Rattle.balance.specs.Counting.{Asking, count, isAccepted, asks, gives, namesOf, returned, askedAfter, grantsIn, grants}
 use Rattle.balance.specs.Fresh.{acceptedDeclaration, without}
 use Rattle.balance.specs.InTicks.{isSleep, ticksToNext, sleeps, asTicks, inTicks, entriesOf, entriesInTicks, SleepsCountAsTicks, BalanceInTicks}
 use Rattle.balance.proofs.Grants.{no-grants, no-kind}
@@ -91,7 +91,7 @@ module _ (day : ℕ) (k : State) (p : Passes day k) where
     wakes : comesBy lastInstant (nextEvent k) ≡ true
 
   sleeping : (r : List ℕ) → sleeps day k r ≡ true → Sleeps r
-  unfolding refuse
+  unfolding answered
   sleeping r q = go (opened r .answer) refl (rw on at q)
     where
       on : step day k r ≡ stepOpened day k (opened r .answer) (opened r .list)
@@ -99,13 +99,13 @@ module _ (day : ℕ) (k : State) (p : Passes day k) where
 
       carried : (h : Head) (n : ℕ) → let c = callWith h (opened r .list) in
           opened r .answer ≡ Accepted h → h .mark ≡ SL → refusalOf day k c ≡ n
-          → step day k r ≡ orRefuse k n (carryOut day k c) → accepted (orRefuse k n (carryOut day k c) .answer) ≡ true → Sleeps r
+          → step day k r ≡ orRefuse k n (carryOut day k c) → isAccepted (orRefuse k n (carryOut day k c) .answer) ≡ true → Sleeps r
       carried h zero e m z s a =
           let c = callWith h (opened r .list) in
           record { listless = sleep-listless r h e m; same = s ∙ sleep-same c m z; wakes = sleep-wakes c m z }
       carried h (suc n) e m z s a = contra a (ne-eqb (suc n) 0 (λ x. omega arith))
 
-      go : (x : Read) → opened r .answer ≡ x → (accepted (stepOpened day k x (opened r .list) .answer) && isSleep x) ≡ true → Sleeps r
+      go : (x : Read) → opened r .answer ≡ x → (isAccepted (stepOpened day k x (opened r .list) .answer) && isSleep x) ≡ true → Sleeps r
       go (Refused n) e z = contra z (simp tests)
       go (Accepted h) e z =
           let c = callWith h (opened r .list) in

@@ -5,7 +5,7 @@ use mathlib.Core.List.{List, [], _∷_, _++_}
 use Prim.Native.Nat.{ℕ}
 use borrow.Author.Tests.{ne-eqb}
 use Rattle.record.specs.Reading.{opened}
-use Rattle.lock.proofs.Bools.{byBool, contra, and-both, not-of-false}
+use Rattle.facts.proofs.Bools.{byBool, contra, and-both, not-of-false}
 use Rattle.machine.specs.declared.State.{State}
 use Rattle.machine.specs.State.{nothing}
 use Rattle.machine.specs.Step.{step}
@@ -17,7 +17,7 @@ use Rattle.machine.proofs.Filing.{taken-valid, taken-filed}
 use Rattle.machine.proofs.Refused.{refusals-numbered}
 use Rattle.machine.proofs.Invariants.{step-ok, step-passes}
 use Rattle.machine.proofs.Taking.{nothing-passes}
-use Rattle.balance.specs.Counting.{accepted}
+use Rattle.balance.specs.Counting.{isAccepted}
 use Rattle.balance.specs.Fresh.{acceptedDeclaration, acceptedCall, turnedAway, without}
 use Rattle.balance.specs.Balance.{AllParted}
 use Rattle.balance.proofs.Balanced.{balance}
@@ -64,7 +64,7 @@ module _ (day : ℕ) (isDay : IsDay day) where
         working = r ∷ rs;
         parts = refl;
         no-call = refl;
-        no-declaration = and-both (call-declares-not (accepted (e .answer)) (isDeclaration (opened r .answer)) c) (begun-declares-none day isDay rs z ok (o .1) begun);
+        no-declaration = and-both (call-declares-not (isAccepted (e .answer)) (isDeclaration (opened r .answer)) c) (begun-declares-none day isDay rs z ok (o .1) begun);
         declaring-octets = tt;
         working-octets = o;
       })

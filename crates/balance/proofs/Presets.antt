@@ -14,18 +14,18 @@ use Rattle.layout.proofs.MarksLaws.{is-mark}
 use Rattle.layout.specs.declared.Call.{Call}
 use Rattle.record.specs.Reading.{callWith, opened}
 use Rattle.lock.specs.Locks.{level}
-use Rattle.lock.proofs.Bools.{byBool, byEq, both}
+use Rattle.facts.proofs.Bools.{byBool, byEq, both}
 use Rattle.lock.proofs.Levels.{value-same, value-other}
 use Rattle.machine.specs.declared.State.{State}
 use Rattle.machine.specs.State.{nothing}
 use Rattle.machine.specs.Calls.{addTask, addSemaphore, addBolt, addInterrupt, declaration as declaredAs}
-use Rattle.machine.specs.Step.{refuse, declared, step}
+use Rattle.machine.specs.Step.{answered, declared, step}
 use Rattle.machine.specs.Log.{AllOctets, isDeclaration, final, log}
 use Rattle.machine.specs.Invariants.{IsDay}
 use Rattle.machine.proofs.Facts.{StateOk}
 use Rattle.machine.proofs.Passed.{Passed, as-mark, room-semaphore}
 use Rattle.machine.proofs.Invariants.{step-ok}
-use Rattle.balance.specs.Counting.{accepted}
+use Rattle.balance.specs.Counting.{isAccepted}
 use Rattle.balance.specs.Fresh.{acceptedCall, without, presetIn, presets, Preset, PresetsAreKept}
 use Rattle.balance.proofs.Fresh.{no-call, nothing-ok}
 
@@ -66,11 +66,11 @@ module _ (day : ℕ) (k : State) (h : StateOk day k) (vs : List ℕ) (y : Preset
         (λ d. rw d (byBool (is m IT) (λ d. rw d (same _ refl refl))
         (λ d. rw d (byBool (is m DC) (λ d. rw d (same _ refl refl)) (λ d. rw d (same _ refl refl))))))))))
 
-  preset-step : (s : List ℕ) → not (accepted (step day k s .answer) && not (isDeclaration (opened s .answer))) ≡ true
-      → Preset (vs ++ cond (accepted (step day k s .answer)) (presetIn (opened s .answer)) []) (step day k s .state)
+  preset-step : (s : List ℕ) → not (isAccepted (step day k s .answer) && not (isDeclaration (opened s .answer))) ≡ true
+      → Preset (vs ++ cond (isAccepted (step day k s .answer)) (presetIn (opened s .answer)) []) (step day k s .state)
   preset-step s =
-      no-call day k h s (λ r z. Preset (vs ++ cond (accepted (z .answer)) (presetIn r) []) (z .state))
-      (λ r n. unfold refuse in rw (ne-eqb (suc n) 0 (λ z. omega arith)) (same k refl refl))
+      no-call day k h s (λ r z. Preset (vs ++ cond (isAccepted (z .answer)) (presetIn r) []) (z .state))
+      (λ r n. unfold answered in rw (ne-eqb (suc n) 0 (λ z. omega arith)) (same k refl refl))
       (λ d l p. unfold declared in let q = by-mark (callWith d l) p in record { count = q .count; value = q .value })
 
 preset-all : (day : ℕ) → IsDay day → (rs : List (List ℕ)) (k : State) (vs : List ℕ) → StateOk day k → Preset vs k → AllOctets rs
@@ -78,8 +78,8 @@ preset-all : (day : ℕ) → IsDay day → (rs : List (List ℕ)) (k : State) (v
 unfolding AllOctets without log final presets
 preset-all day isDay [] k vs h y o q = same day k h vs y k refl refl
 preset-all day isDay (r ∷ rs) k vs h y o q =
-    let p = both (not (accepted (step day k r .answer) && not (isDeclaration (opened r .answer)))) _ q in
-    rw (← append-assoc vs (cond (accepted (step day k r .answer)) (presetIn (opened r .answer)) []) (presets (log day (step day k r .state) rs)))
+    let p = both (not (isAccepted (step day k r .answer) && not (isDeclaration (opened r .answer)))) _ q in
+    rw (← append-assoc vs (cond (isAccepted (step day k r .answer)) (presetIn (opened r .answer)) []) (presets (log day (step day k r .state) rs)))
     (preset-all day isDay rs (step day k r .state) _ (step-ok day isDay k h r (o .0)) (preset-step day k h vs y r (p .0)) (o .1) (p .1))
 
 pub presets-are-kept : PresetsAreKept

@@ -8,7 +8,7 @@ use borrow.Author.Tests.{eqb-false, not-true}
 use Rattle.lock.specs.Locks.{waiting, level}
 use Rattle.lock.specs.declared.Way.the-variants.{Take}
 use Rattle.lock.specs.declared.Wait.{Wait}
-use Rattle.lock.proofs.Bools.{byEq, contra, both}
+use Rattle.facts.proofs.Bools.{byEq, contra, both}
 use Rattle.lock.proofs.Levels.{Law}
 use Rattle.lock.proofs.Taking.{move-law}
 use Rattle.lock.proofs.Exclusion.{Exclusive, move-exclusive}

@@ -15,7 +15,7 @@ use Rattle.record.specs.declared.Read.{Read}
 use Rattle.record.specs.declared.Read.the-variants.{Refused, Accepted}
 use Rattle.lock.specs.Locks.{bit, waiting, level}
 use Rattle.lock.specs.declared.Wait.{Wait}
-use Rattle.lock.proofs.Bools.{tests, byBool, contra, or-right}
+use Rattle.facts.proofs.Bools.{tests, byBool, contra, or-right}
 use Rattle.lock.proofs.Levels.{Law, law-refl}
 use Rattle.lock.proofs.Exclusion.{Exclusive}
 use Rattle.machine.specs.declared.State.{State}
@@ -28,31 +28,32 @@ use Rattle.machine.specs.Running.{runner}
 use Rattle.machine.specs.Work.{Work}
 use Rattle.machine.specs.Sorts.{declares}
 use Rattle.machine.specs.Calls.{workOf}
-use Rattle.machine.specs.Step.{refuse, finish, orRefuse, carryOut, carryOn, step}
+use Rattle.machine.specs.Step.{answered, finish, orRefuse, carryOut, carryOn, step}
 use Rattle.machine.specs.OnePass.{unserved}
 use Rattle.machine.specs.Log.{isDeclaration}
 use Rattle.machine.specs.Invariants.{IsDay}
-use Rattle.machine.proofs.SetLaws.{has-empty, pow-pos}
+use Rattle.machine.proofs.SetLaws.{has-empty}
 use Rattle.machine.proofs.Facts.{StateOk, passes-of-ok}
 use Rattle.machine.proofs.Passed.{refusalOf, passed}
 use Rattle.machine.proofs.Opened.{opened-refused, opened-priority}
 use Rattle.machine.proofs.Cases.{done-number, carried-by, stepOpened, step-on}
 use Rattle.machine.proofs.Done.{Did, role, call-done}
 use Rattle.machine.proofs.Keeping.{unserved-ok, did-ok, finish-ok}
-use Rattle.balance.specs.Counting.{accepted, asks, gives, namesIn, Asking, counts, issuedBy, grantsIn, Open, isIssuer, stays, isIn}
+use Rattle.balance.specs.Counting.{isAccepted, asks, gives, namesIn, Asking, counts, issuedBy, grantsIn, Open, isIssuer, stays, isIn}
 use Rattle.balance.specs.Balance.{prevents}
 use Rattle.balance.proofs.Grants.{moved-refl, law-moved, no-grants}
 use Rattle.balance.proofs.Works.{Ties, asksIf, lastIf, waitsNow, waitingIn, Marked, granted-marked, hasIn, Declared, regranted, only-granted}
 use Rattle.balance.proofs.Calls.{did-books}
 use Rattle.balance.proofs.Serving.{served-books}
+use Rattle.facts.proofs.Numbers.{pow-pos}
 
 -- What the counts of a log go by, for a record that reads as r with the list l.
 module _ (a : Answer) (r : Read) (l : List ℕ) (before : Running) where
   abbrev pub lastThen : Asking → Asking
-  lastThen last = cond (accepted a && waiting (namesIn asks r l .kind)) (issuedBy before (namesIn asks r l) last) last
+  lastThen last = cond (isAccepted a && waiting (namesIn asks r l .kind)) (issuedBy before (namesIn asks r l) last) last
 
   abbrev pub asksThen : ℕ → Bool
-  asksThen i = accepted a && waiting (namesIn asks r l .kind) && isIssuer before i
+  asksThen i = isAccepted a && waiting (namesIn asks r l .kind) && isIssuer before i
 
   abbrev pub openNow : Open → Open
   openNow was i = (was i && not (isIn (a .sets .ended) i)) || asksThen i
@@ -71,10 +72,10 @@ pub record StepBooks (day : ℕ) (k : State) (last : Asking) (was : Open) (r : R
   pub next : Invariant day (s .state) (lastThen (s .answer) r l (runner k) last) (openThen (s .answer) r l (runner k) was)
   pub counts-same : s .state .counts ≡ k .counts
   pub runs : s .answer .running ≡ runner (s .state)
-  pub marked : (i : ℕ) → i < k .counts .tasks → Marked (accepted (s .answer) && prevents r i) (taskAt (k .tasks) i) (taskAt (s .state .tasks) i) (hasIn i (s .answer .sets))
-  pub values : (v : Wait) (x : ℕ) → Law v (level v (s .state .locks) x) (grantsIn (k .counts .tasks) v x (lastThen (s .answer) r l (runner k) last) (s .answer .sets .granted)) (bit (accepted (s .answer)) * counts v x (namesIn gives r l)) (level v (k .locks) x)
+  pub marked : (i : ℕ) → i < k .counts .tasks → Marked (isAccepted (s .answer) && prevents r i) (taskAt (k .tasks) i) (taskAt (s .state .tasks) i) (hasIn i (s .answer .sets))
+  pub values : (v : Wait) (x : ℕ) → Law v (level v (s .state .locks) x) (grantsIn (k .counts .tasks) v x (lastThen (s .answer) r l (runner k) last) (s .answer .sets .granted)) (bit (isAccepted (s .answer)) * counts v x (namesIn gives r l)) (level v (k .locks) x)
   pub grants : (i : ℕ) → i < k .counts .tasks → has i (s .answer .sets .granted) ≡ 1 → openNow (s .answer) r l (runner k) was i ≡ true
-  pub begun : s .state .begun ≡ (k .begun || accepted (s .answer))
+  pub begun : s .state .begun ≡ (k .begun || isAccepted (s .answer))
   pub declared : Declared (k .counts .tasks) (s .answer .sets)
 
 or-more : (a b c : Bool) → (a || (b && c)) ≡ true → (a || b) ≡ true
@@ -86,8 +87,8 @@ module _ (day : ℕ) (isDay : IsDay day) (k : State) (last : Asking) (was : Open
   abbrev n : ℕ
   n = k .counts .tasks
 
-  refused-books : (r : Read) (l : List ℕ) (m : ℕ) → StepBooks day k last was r l (refuse k (suc m) (runner k))
-  unfolding refuse
+  refused-books : (r : Read) (l : List ℕ) (m : ℕ) → StepBooks day k last was r l (answered k (suc m) (runner k))
+  unfolding answered
   refused-books r l m =
       let no : eqb (suc m) 0 ≡ false = ne-eqb (suc m) 0 (λ z. omega arith) in
       record {
@@ -156,10 +157,10 @@ module _ (day : ℕ) (isDay : IsDay day) (k : State) (last : Asking) (was : Open
           declared = regranted n (w .sets) _ (b .declared) (s .granted-lt);
         }
 
-    carry-books : d .priority < 256 → not (accepted (carryOn day k (callWith d l) .answer) && declares (d .mark)) ≡ true → StepBooks day k last was (Accepted d) l (carryOn day k (callWith d l))
+    carry-books : d .priority < 256 → not (isAccepted (carryOn day k (callWith d l) .answer) && declares (d .mark)) ≡ true → StepBooks day k last was (Accepted d) l (carryOn day k (callWith d l))
     carry-books b o = let by = carried-by day k (callWith d l) in rw by (go (refusalOf day k (callWith d l)) refl (rw by at o))
       where
-        go : (m : ℕ) → refusalOf day k (callWith d l) ≡ m → not (accepted (orRefuse k m (carryOut day k (callWith d l)) .answer) && declares (d .mark)) ≡ true → StepBooks day k last was (Accepted d) l (orRefuse k m (carryOut day k (callWith d l)))
+        go : (m : ℕ) → refusalOf day k (callWith d l) ≡ m → not (isAccepted (orRefuse k m (carryOut day k (callWith d l)) .answer) && declares (d .mark)) ≡ true → StepBooks day k last was (Accepted d) l (orRefuse k m (carryOut day k (callWith d l)))
         go (suc m) e q = refused-books (Accepted d) l m
         go zero e q =
             byBool (declares (d .mark)) (λ z. contra q (rw (done-number day k (callWith d l), z)))
@@ -168,11 +169,11 @@ module _ (day : ℕ) (isDay : IsDay day) (k : State) (last : Asking) (was : Open
 
   -- A record that reads as r with the list l.
   read-books : (r : Read) (l : List ℕ) → ((m : ℕ) → r ≡ Refused m → m ≡ 2) → ((d : Head) → r ≡ Accepted d → d .priority < 256)
-      → not (accepted (stepOpened day k r l .answer) && isDeclaration r) ≡ true → StepBooks day k last was r l (stepOpened day k r l)
+      → not (isAccepted (stepOpened day k r l .answer) && isDeclaration r) ≡ true → StepBooks day k last was r l (stepOpened day k r l)
   read-books (Refused m) l two byte o = let e = two m refl in rw e (refused-books (Refused 2) l 1)
   read-books (Accepted d) l two byte o = carry-books d l (byte d refl) o
 
-  pub step-books : (s : List ℕ) → Octets s → not (accepted (step day k s .answer) && isDeclaration (opened s .answer)) ≡ true
+  pub step-books : (s : List ℕ) → Octets s → not (isAccepted (step day k s .answer) && isDeclaration (opened s .answer)) ≡ true
       → StepBooks day k last was (opened s .answer) (opened s .list) (step day k s)
   step-books s o q =
       let on = step-on day k s (passes-of-ok day k (h .ok) .tested) in

@@ -14,7 +14,7 @@ use Rattle.layout.specs.declared.Call.{Call}
 use Rattle.lock.specs.Locks.{bit, waiting, level}
 use Rattle.lock.specs.declared.Wait.{Wait}
 use Rattle.lock.specs.declared.Wait.the-variants.{Nothing}
-use Rattle.lock.proofs.Bools.{tests, byEq, eqb-bit}
+use Rattle.facts.proofs.Bools.{tests, byEq}
 use Rattle.lock.proofs.Levels.{Law, law-refl}
 use Rattle.lock.proofs.Exclusion.{Exclusive}
 use Rattle.task.specs.State.{noTask, isKept, wanted}
@@ -28,12 +28,14 @@ use Rattle.machine.specs.declared.Sets.{Sets}
 use Rattle.machine.specs.State.{taskAt}
 use Rattle.machine.specs.Running.{runner}
 use Rattle.machine.specs.Work.{Work, changed, turns, everyTurn}
-use Rattle.machine.proofs.SetLaws.{members-each, no-members, each-regranted, has-empty, has-only, has-only-other, pow-pos, only-lt}
+use Rattle.machine.proofs.SetLaws.{members-each, no-members, each-regranted, has-empty, has-only, has-only-other, only-lt}
 use Rattle.machine.proofs.Facts.{StateOk, task-room}
 use Rattle.machine.proofs.Works.{oneTurn, turn-at, set-at, set-lt, set-none}
-use Rattle.machine.proofs.Done.{Role, plain}
+use Rattle.machine.proofs.Done.{Role, plainRole}
 use Rattle.balance.specs.Counting.{Named, Asking, counts, issuedBy, grantsIn, Open, isIssuer, isIn}
 use Rattle.balance.proofs.Grants.{no-grants, no-kind}
+use Rattle.lock.proofs.Bits.{eqb-bit}
+use Rattle.facts.proofs.Numbers.{pow-pos}
 
 -- One task, by how often each set has it; p: a PREVENT of it.
 pub record Marked (p : Bool) (t t′ : Task) (m : Set → ℕ) : Type 0 where
@@ -166,7 +168,7 @@ module _ (day : ℕ) (k : State) (h : StateOk day k) (c : Call) where
     one-declared x = rw (members-each x (λ y. only i (mark y (u .marks)))) (only-lt n i (mark x (u .marks)) l)
 
     -- A turn of one task.
-    pub turned-books : (last : Asking) (p : Bool) → (p ≡ true → c .head .number ≡ i) → Fair p (t i) u → WorkBooks k c (plain p) last last (oneTurn k i u)
+    pub turned-books : (last : Asking) (p : Bool) → (p ≡ true → c .head .number ≡ i) → Fair p (t i) u → WorkBooks k c (plainRole p) last last (oneTurn k i u)
     turned-books last p f g =
         record {
           marked = λ j q. one-marked p f (fair-marked p (t i) u g) j;
@@ -183,7 +185,7 @@ module _ (day : ℕ) (k : State) (h : StateOk day k) (c : Call) where
         }
 
   -- A turn of every task.
-  pub every-books : (last : Asking) (m : Instant) (f : Task → Turn) → ((i : ℕ) → i < n → Fair false (t i) (f (t i))) → WorkBooks k c (plain false) last last (everyTurn k m f)
+  pub every-books : (last : Asking) (m : Instant) (f : Task → Turn) → ((i : ℕ) → i < n → Fair false (t i) (f (t i))) → WorkBooks k c (plainRole false) last last (everyTurn k m f)
   unfolding everyTurn
   every-books last m f g =
       let room = task-room day k h in

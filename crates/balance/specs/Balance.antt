@@ -24,7 +24,7 @@ use Rattle.machine.specs.Invariants.{IsDay}
 use Rattle.machine.specs.declared.State.{State}
 use Rattle.machine.specs.declared.Answer.{Answer}
 use Rattle.machine.specs.declared.Running.the-variants.{Idle}
-use Rattle.balance.specs.Counting.{count, accepted, returned, granted, noneOpen, GrantsOpen, openFrom}
+use Rattle.balance.specs.Counting.{count, isAccepted, returned, granted, noneOpen, GrantsOpen, openFrom}
 use Rattle.balance.specs.Fresh.{Fresh, acceptedDeclaration, acceptedCall, turnedAway, without, presets, Preset}
 
 -- ---- sums over the log, from the fresh kernel k to the last kernel z
@@ -68,7 +68,7 @@ prevents (Accepted h) i = is (h .mark) PR && eqb (h .number) i
 abbrev pub loses : State → List ℕ → Answer → ℕ → Bool
 loses k r a i =
     isKept (taskAt (k .tasks) i .kept)
-    && ((eqb (has i (a .sets .due)) 1 && taskAt (k .tasks) i .alive) || (accepted a && prevents (opened r .answer) i))
+    && ((eqb (has i (a .sets .due)) 1 && taskAt (k .tasks) i .alive) || (isAccepted a && prevents (opened r .answer) i))
 
 pub record RightStep (day : ℕ) (k : State) (r : List ℕ) (a : Answer) (z : State) : Type 0 where
   -- every kernel on the way passes the kernel test with what the rules give on file, so refusals 1 and 16 never arise
@@ -80,7 +80,7 @@ pub record RightStep (day : ℕ) (k : State) (r : List ℕ) (a : Answer) (z : St
   -- sets name declared tasks only
   pub declared : (x : Set) → members x (a .sets) < 2 ^ k .counts .tasks
   -- a call was accepted after this record exactly when one was before or is now
-  pub begun : z .begun ≡ (k .begun || accepted a)
+  pub begun : z .begun ≡ (k .begun || isAccepted a)
 
 unfoldable pub AtEachRecord : ℕ → State → List (List ℕ) → Type 0
 AtEachRecord day k [] = Unit {0}

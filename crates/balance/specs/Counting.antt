@@ -26,8 +26,8 @@ unfoldable pub count : Set → ℕ → List Entry → ℕ
 count x i [] = 0
 count x i (e ∷ es) = has i (members x (e .answer .sets)) + count x i es
 
-abbrev pub accepted : Answer → Bool
-accepted a = eqb (a .number) 0
+abbrev pub isAccepted : Answer → Bool
+isAccepted a = eqb (a .number) 0
 
 -- ---- lists that calls name
 
@@ -64,7 +64,7 @@ counts v x n = bit (sameKind v (n .kind) && names (n .list) x)
 -- The accepted RL (v is Request), FR (Reserve) or LV (Enter) that name x.
 unfoldable pub returned : Wait → ℕ → List Entry → ℕ
 returned v x [] = 0
-returned v x (e ∷ es) = bit (accepted (e .answer)) * counts v x (namesOf gives (e .bytes)) + returned v x es
+returned v x (e ∷ es) = bit (isAccepted (e .answer)) * counts v x (namesOf gives (e .bytes)) + returned v x es
 
 -- ---- grants, reserves and entries
 
@@ -79,7 +79,7 @@ issuedBy (Runs j) n last i = cond (eqb i j) n (last i)
 -- After an answer: an accepted asking call belongs to the running task of the answer before.
 unfoldable pub askedAfter : Running → Entry → Asking → Asking
 askedAfter before e last =
-    cond (accepted (e .answer) && waiting (namesOf asks (e .bytes) .kind)) (issuedBy before (namesOf asks (e .bytes)) last) last
+    cond (isAccepted (e .answer) && waiting (namesOf asks (e .bytes) .kind)) (issuedBy before (namesOf asks (e .bytes)) last) last
 
 -- The grants of x in an answer of n tasks: a granted mark counts for what its task last asked for.
 unfoldable pub grantsIn : ℕ → Wait → ℕ → Asking → ℕ → ℕ
@@ -116,7 +116,7 @@ stays (Accepted h) = staying (sortOf (h .mark))
 
 -- Task i issued the record of e, an accepted RQ, TR, RS or ET.
 unfoldable pub asksNow : Running → Entry → ℕ → Bool
-asksNow before e i = accepted (e .answer) && waiting (namesOf asks (e .bytes) .kind) && isIssuer before i
+asksNow before e i = isAccepted (e .answer) && waiting (namesOf asks (e .bytes) .kind) && isIssuer before i
 
 abbrev pub isIn : ℕ → ℕ → Bool
 isIn set i = eqb (has i set) 1

@@ -17,7 +17,7 @@ use Rattle.machine.specs.Test.{kernelRefusal}
 use Rattle.machine.specs.Log.{AllOctets, isDeclaration, Entry, final, log}
 use Rattle.machine.specs.Invariants.{IsDay, Tables}
 use Rattle.machine.specs.declared.State.{State}
-use Rattle.balance.specs.Counting.{accepted}
+use Rattle.balance.specs.Counting.{isAccepted}
 
 -- A fresh kernel.
 pub record Fresh (day : ℕ) (k : State) : Type 0 where
@@ -30,10 +30,10 @@ pub record Fresh (day : ℕ) (k : State) : Type 0 where
   pub enabled : (i : ℕ) → i < k .counts .interrupts → enabledAt k i ≡ false
 
 abbrev pub acceptedDeclaration : Entry → Bool
-acceptedDeclaration e = accepted (e .answer) && isDeclaration (opened (e .bytes) .answer)
+acceptedDeclaration e = isAccepted (e .answer) && isDeclaration (opened (e .bytes) .answer)
 
 abbrev pub acceptedCall : Entry → Bool
-acceptedCall e = accepted (e .answer) && not (isDeclaration (opened (e .bytes) .answer))
+acceptedCall e = isAccepted (e .answer) && not (isDeclaration (opened (e .bytes) .answer))
 
 -- Refused with 1 or 16.
 abbrev pub turnedAway : Entry → Bool
@@ -60,7 +60,7 @@ presetIn (Accepted h) = cond (is (h .mark) DS) (h .first ∷ []) []
 -- Those of the accepted DS of a log, in order.
 unfoldable pub presets : List Entry → List ℕ
 presets [] = []
-presets (e ∷ es) = cond (accepted (e .answer)) (presetIn (opened (e .bytes) .answer)) [] ++ presets es
+presets (e ∷ es) = cond (isAccepted (e .answer)) (presetIn (opened (e .bytes) .answer)) [] ++ presets es
 
 -- There are as many semaphores as presets, and each has its own.
 pub record Preset (vs : List ℕ) (k : State) : Type 0 where

@@ -18,7 +18,7 @@ use Rattle.machine.specs.Invariants.{IsDay, Passes}
 use Rattle.machine.specs.Scripts.{row, oneTick}
 use Rattle.machine.specs.Quiet.{quietTick}
 use Rattle.machine.specs.declared.State.{State}
-use Rattle.balance.specs.Counting.{count, accepted, returned, granted}
+use Rattle.balance.specs.Counting.{count, isAccepted, returned, granted}
 use Rattle.balance.specs.Fresh.{Fresh, acceptedDeclaration, without}
 use Rattle.balance.specs.Balance.{Balanced}
 
@@ -36,7 +36,7 @@ ticksToNext k = instantOr (k .now) (k .file .next) .0 - k .now .0
 module _ (day : ℕ) where
   -- The record is an SL that k accepts.
   abbrev pub sleeps : State → List ℕ → Bool
-  sleeps k r = accepted (step day k r .answer) && isSleep (opened r .answer)
+  sleeps k r = isAccepted (step day k r .answer) && isSleep (opened r .answer)
 
   -- An accepted SL as its ticks, any other record as it is.
   unfoldable pub asTicks : State → List ℕ → List (List ℕ)

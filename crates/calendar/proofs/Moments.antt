@@ -8,25 +8,14 @@ use native.Mathlib.Decide.{decLt}
 use native.Mathlib.Omega.{arith}
 use lib.Dec.{eqb, ltb}
 use borrow.Author.Tests.{ltb-true, ltb-false, lt-ltb, le-ltb, eqb-true, eq-eqb, ne-eqb}
+use Rattle.facts.proofs.Bools.{contra}
 use Rattle.calendar.specs.declared.Instant.{Instant}
 use Rattle.calendar.specs.declared.Moment.{Moment}
 use Rattle.calendar.specs.declared.Moment.the-variants.{Never, At}
 use Rattle.calendar.specs.Times.{instant}
-use Rattle.calendar.specs.Moments.{isAt, hasAt, before, sameMoment, upTo, sooner, firstAfter}
+use Rattle.calendar.specs.Moments.{isAt, hasAt, earlierThan, sameMoment, sooner, firstAfter}
 
 -- ---- one moment
-
--- What is below it is below l and earlier than the moment.
-pub up-to-before : (l : ℕ) (m : Moment) (x : ℕ) → x < upTo l m → (x < l) × (before (instant x) m ≡ true)
-up-to-before l Never x h = (h, refl)
-up-to-before l (At n) x h = go (ltb (n .0) l) refl h
-  where
-    go : (b : Bool) → ltb (n .0) l ≡ b → x < cond b (n .0) l → (x < l) × (ltb x (n .0) ≡ true)
-    go true e h = (omega (arith, ltb-true (n .0) l e), lt-ltb x (n .0) h)
-    go false e h = (h, lt-ltb x (n .0) (omega (arith, ltb-false (n .0) l e)))
-
-contra : {A : Type 0} {b : Bool} → b ≡ true → b ≡ false → A
-contra e f = absurd (let z : _≡_ {A = ℕ} 0 1 = cc in omega arith)
 
 -- The same moment is the same.
 pub moment-same : (a b : Moment) → sameMoment a b ≡ true → a ≡ b
@@ -43,26 +32,26 @@ same-moment (At n) = eq-eqb (n .0) (n .0) refl
 
 module _ (n x : Instant) (l : n .0 < x .0) where
   -- What is earlier than the sooner of two is earlier than the one, and isn't the other.
-  sooner-none : (m s : Moment) → before x (sooner n m s) ≡ true → (isAt x m ≡ false) × (before x s ≡ true)
+  sooner-none : (m s : Moment) → earlierThan x (sooner n m s) ≡ true → (isAt x m ≡ false) × (earlierThan x s ≡ true)
   sooner-none Never s e = (refl, e)
-  sooner-none (At m) s e = go (ltb (n .0) (m .0)) (before m s) refl refl e
+  sooner-none (At m) s e = go (ltb (n .0) (m .0)) (earlierThan m s) refl refl e
     where
-      earlier : (s : Moment) → x .0 < m .0 → before m s ≡ true → before x s ≡ true
+      earlier : (s : Moment) → x .0 < m .0 → earlierThan m s ≡ true → earlierThan x s ≡ true
       earlier Never a q = refl
       earlier (At y) a q = lt-ltb (x .0) (y .0) (omega (arith, ltb-true (m .0) (y .0) q))
 
-      later : (s : Moment) → before m s ≡ false → before x s ≡ true → x .0 < m .0
+      later : (s : Moment) → earlierThan m s ≡ false → earlierThan x s ≡ true → x .0 < m .0
       later Never q e = absurd (let z : _≡_ {A = ℕ} 0 1 = cc in omega arith)
       later (At y) q e = omega (arith, ltb-false (m .0) (y .0) q, ltb-true (x .0) (y .0) e)
 
-      go : (b c : Bool) → ltb (n .0) (m .0) ≡ b → before m s ≡ c → before x (cond (b && c) (At m) s) ≡ true
-          → (eqb (m .0) (x .0) ≡ false) × (before x s ≡ true)
+      go : (b c : Bool) → ltb (n .0) (m .0) ≡ b → earlierThan m s ≡ c → earlierThan x (cond (b && c) (At m) s) ≡ true
+          → (eqb (m .0) (x .0) ≡ false) × (earlierThan x s ≡ true)
       go false c p q e = (ne-eqb (m .0) (x .0) (λ h. omega (arith, ltb-false (n .0) (m .0) p)), e)
       go true false p q e = (ne-eqb (m .0) (x .0) (λ h. omega (arith, later s q e)), e)
       go true true p q e =
           let l = ltb-true (x .0) (m .0) e in (ne-eqb (m .0) (x .0) (λ h. omega arith), earlier s l q)
 
-  pub first-none : (ms : List Moment) → before x (firstAfter n ms) ≡ true → hasAt x ms ≡ false
+  pub first-none : (ms : List Moment) → earlierThan x (firstAfter n ms) ≡ true → hasAt x ms ≡ false
   unfolding firstAfter hasAt
   first-none [] e = refl
   first-none (m ∷ ms) e = let p = sooner-none m (firstAfter n ms) e in rw (p .0, first-none ms (p .1))
@@ -71,7 +60,7 @@ module _ (n : Instant) where
   -- The sooner of two is the one, or the other and later than n.
   sooner-is : (m s : Moment) (a : Instant) → sooner n m s ≡ At a → (s ≡ At a) ⊎ ((n .0 < a .0) × (m ≡ At a))
   sooner-is Never s a e = inl e
-  sooner-is (At m) s a e = go (ltb (n .0) (m .0)) (before m s) refl e
+  sooner-is (At m) s a e = go (ltb (n .0) (m .0)) (earlierThan m s) refl e
     where
       go : (b c : Bool) → ltb (n .0) (m .0) ≡ b → cond (b && c) (At m) s ≡ At a → (s ≡ At a) ⊎ ((n .0 < a .0) × (At m ≡ At a))
       go false c p e = inl e
@@ -98,9 +87,9 @@ has-append x (m ∷ a) b = rw (has-append x a b, or-assoc)
 -- The earlier of two.
 abbrev pub earlier : Moment → Moment → Moment
 earlier Never s = s
-earlier (At m) s = cond (before m s) (At m) s
+earlier (At m) s = cond (earlierThan m s) (At m) s
 
-before-split : (m : Instant) (a b : Moment) → before m (earlier a b) ≡ (before m a && before m b)
+before-split : (m : Instant) (a b : Moment) → earlierThan m (earlier a b) ≡ (earlierThan m a && earlierThan m b)
 before-split m Never b = refl
 before-split m (At x) Never = and-self (ltb (m .0) (x .0))
   where
@@ -117,20 +106,20 @@ before-split m (At x) (At y) = go (decLt (x .0) (y .0))
     more true e l = rw (lt-ltb (m .0) (x .0) (omega (arith, ltb-true (m .0) (y .0) e)))
     more false e l = rw (and-false (ltb (m .0) (x .0)))
 
-    go : Dec (x .0 < y .0) → before m (cond (ltb (x .0) (y .0)) (At x) (At y)) ≡ (ltb (m .0) (x .0) && ltb (m .0) (y .0))
+    go : Dec (x .0 < y .0) → earlierThan m (cond (ltb (x .0) (y .0)) (At x) (At y)) ≡ (ltb (m .0) (x .0) && ltb (m .0) (y .0))
     go (yes l) = rw (lt-ltb (x .0) (y .0) l) (less (ltb (m .0) (x .0)) refl l)
     go (no l) = rw (le-ltb (x .0) (y .0) (omega arith)) (more (ltb (m .0) (y .0)) refl l)
 
 -- What is later than m isn't earlier than what isn't.
-passed-by : (m : Instant) (a b : Moment) → before m a ≡ true → before m b ≡ false → b ≡ earlier a b
+passed-by : (m : Instant) (a b : Moment) → earlierThan m a ≡ true → earlierThan m b ≡ false → b ≡ earlier a b
 passed-by m Never b e f = refl
 passed-by m (At x) Never e f = contra refl f
 passed-by m (At x) (At y) e f = rw (le-ltb (x .0) (y .0) (omega (arith, ltb-true (m .0) (x .0) e, ltb-false (m .0) (y .0) f)))
 
 earlier-more : (m : Instant) (a b : Moment) → earlier (At m) (earlier a b) ≡ earlier (earlier (At m) a) b
-earlier-more m a b = rw (before-split m a b) (go (before m a) (before m b) refl refl)
+earlier-more m a b = rw (before-split m a b) (go (earlierThan m a) (earlierThan m b) refl refl)
   where
-    go : (c d : Bool) → before m a ≡ c → before m b ≡ d → cond (c && d) (At m) (earlier a b) ≡ earlier (cond c (At m) a) b
+    go : (c d : Bool) → earlierThan m a ≡ c → earlierThan m b ≡ d → cond (c && d) (At m) (earlier a b) ≡ earlier (cond c (At m) a) b
     go true true e f = rw f
     go true false e f = rw f (sym (passed-by m a b e f))
     go false d e f = refl
@@ -141,7 +130,7 @@ module _ (n : Instant) where
   sooner-earlier Never a b = refl
   sooner-earlier (At m) a b = go (ltb (n .0) (m .0))
     where
-      go : (c : Bool) → cond (c && before m (earlier a b)) (At m) (earlier a b) ≡ earlier (cond (c && before m a) (At m) a) b
+      go : (c : Bool) → cond (c && earlierThan m (earlier a b)) (At m) (earlier a b) ≡ earlier (cond (c && earlierThan m a) (At m) a) b
       go true = earlier-more m a b
       go false = refl
 

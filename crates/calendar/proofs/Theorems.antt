@@ -9,10 +9,10 @@ use borrow.Author.Tests.{ltb-true, leb-true, le-leb, lt-leb}
 use lib.Dec.{leb, ltb}
 use Rattle.calendar.specs.declared.Instant.{Instant}
 use Rattle.calendar.specs.declared.Start.{Start}
-use Rattle.calendar.specs.declared.Start.the-variants.{Now, At, After}
+use Rattle.calendar.specs.declared.Start.the-variants.{Now, AtTime, After}
 use Rattle.calendar.specs.declared.End.the-variants.{Open, Until, During}
-use Rattle.calendar.specs.declared.Moment.the-variants.{Never, At as Then}
-use Rattle.calendar.specs.Limits.{day, longestDuration, mostInstant, isDuration}
+use Rattle.calendar.specs.declared.Moment.the-variants.{Never, At}
+use Rattle.calendar.specs.Limits.{dayLength, longestDuration, mostInstant, isDuration}
 use Rattle.calendar.specs.Times.{duration, plus, timeOfDay, until}
 use Rattle.calendar.specs.Dues.{firstDue, lastAllowed, allowed, nextDue}
 use Rattle.calendar.specs.Promises.{UntilIsNext, AtIsNext, EndIsNext, PresentIsNow, FirstNotBefore, NowIsNow, AfterIsLater, FirstIsAllowed, NextIsLater, LastBelongs, startFits, endFits, isStored, FirstIsStored, LastIsStored, NextIsStored}
@@ -64,7 +64,7 @@ present-is-now day clock n h =
 pub first-not-before : FirstNotBefore
 unfolding firstDue
 first-not-before day clock Now n = omega arith
-first-not-before day clock (At t) n = omega arith
+first-not-before day clock (AtTime t) n = omega arith
 first-not-before day clock (After d) n = omega arith
 
 -- What the test of a duration says.
@@ -92,7 +92,7 @@ first-is-allowed day clock (Until t) f = last-belongs (plus f (until day clock f
 first-is-allowed day clock (During d) f = last-belongs (plus f d) f .0 (omega arith)
 
 -- A choice of an instant says that the test held, and which instant it was.
-chosen : (b : Bool) (x m : Instant) → cond b (Then x) Never ≡ Then m → (b ≡ true) × (x ≡ m)
+chosen : (b : Bool) (x m : Instant) → cond b (At x) Never ≡ At m → (b ≡ true) × (x ≡ m)
 chosen true x m e = (refl, cc)
 chosen false x m e = (cc, cc)
 
@@ -107,32 +107,32 @@ next-is-later period last n m e =
 -- A first due adds at most the longest duration.
 first-most :
     (clock : ℕ) (s : Start) (n : Instant) →
-    startFits s ≡ true → firstDue day s clock n .0 ≤ n .0 + longestDuration
+    startFits s ≡ true → firstDue dayLength s clock n .0 ≤ n .0 + longestDuration
 unfolding startFits firstDue until
 first-most clock Now n e = omega arith
-first-most clock (At t) n e = omega arith
+first-most clock (AtTime t) n e = omega arith
 first-most clock (After d) n e = omega (arith, in-range (d .0) e)
 
-stored : (n : Instant) → n .0 ≤ mostInstant → isStored (Then n) ≡ true
+stored : (n : Instant) → n .0 ≤ mostInstant → isStored (At n) ≡ true
 unfolding isStored
 stored n = le-leb (n .0) mostInstant
 
 pub first-is-stored : FirstIsStored
-first-is-stored clock s n h e = stored (firstDue day s clock n) (omega (arith, first-most clock s n e))
+first-is-stored clock s n h e = stored (firstDue dayLength s clock n) (omega (arith, first-most clock s n e))
 
 pub last-is-stored : LastIsStored
 unfolding isStored lastAllowed endFits until
 last-is-stored clock s Open n h e g = refl
 last-is-stored clock s (Until t) n h e g =
-    let f : Instant = firstDue day s clock n in
-    stored (plus f (until day clock f t)) (omega (arith, first-most clock s n e))
+    let f : Instant = firstDue dayLength s clock n in
+    stored (plus f (until dayLength clock f t)) (omega (arith, first-most clock s n e))
 last-is-stored clock s (During d) n h e g =
-    stored (plus (firstDue day s clock n) d) (omega (arith, first-most clock s n e, in-range (d .0) g))
+    stored (plus (firstDue dayLength s clock n) d) (omega (arith, first-most clock s n e, in-range (d .0) g))
 
 pub next-is-stored : NextIsStored
 unfolding isStored nextDue
 next-is-stored period last n h e = go (ltb 0 period && allowed last (plus n (duration period)))
   where
-    go : (b : Bool) → isStored (cond b (Then (plus n (duration period))) Never) ≡ true
+    go : (b : Bool) → isStored (cond b (At (plus n (duration period))) Never) ≡ true
     go true = stored (plus n (duration period)) (omega (arith, leb-true period longestDuration e))
     go false = refl

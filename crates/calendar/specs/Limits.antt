@@ -8,12 +8,12 @@ abbrev pub tick : ℕ
 tick = 1
 
 -- the ticks of a day
-abbrev pub day : ℕ
-day = 86400000
+abbrev pub dayLength : ℕ
+dayLength = 86400000
 
 -- the ticks of an hour
 abbrev pub hour : ℕ
-hour = day / 24
+hour = dayLength / 24
 
 -- the longest duration and the longest period
 abbrev pub longestDuration : ℕ

@@ -18,9 +18,9 @@ hasAt n [] = false
 hasAt n (m ∷ ms) = isAt n m || hasAt n ms
 
 -- n is earlier than the moment. Every instant is earlier than none.
-abbrev pub before : Instant → Moment → Bool
-before n Never = true
-before n (At m) = ltb (n .0) (m .0)
+abbrev pub earlierThan : Instant → Moment → Bool
+earlierThan n Never = true
+earlierThan n (At m) = ltb (n .0) (m .0)
 
 -- The same instant, or none both times.
 abbrev pub sameMoment : Moment → Moment → Bool
@@ -40,14 +40,14 @@ instantOr n Never = n
 instantOr n (At m) = m
 
 -- The instant as a number, but at most l.
-abbrev pub upTo : ℕ → Moment → ℕ
-upTo l Never = l
-upTo l (At n) = cond (ltb (n .0) l) (n .0) l
+abbrev pub cappedAt : ℕ → Moment → ℕ
+cappedAt l Never = l
+cappedAt l (At n) = cond (ltb (n .0) l) (n .0) l
 
 -- The earlier of m and s, where m counts only if it is later than n.
 abbrev pub sooner : Instant → Moment → Moment → Moment
 sooner n Never s = s
-sooner n (At m) s = cond (ltb (n .0) (m .0) && before m s) (At m) s
+sooner n (At m) s = cond (ltb (n .0) (m .0) && earlierThan m s) (At m) s
 
 -- The first of them that is later than n, or none.
 unfoldable pub firstAfter : Instant → List Moment → Moment

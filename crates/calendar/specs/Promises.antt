@@ -6,12 +6,12 @@ use lib.Dec.{leb}
 use Rattle.calendar.specs.declared.Instant.{Instant}
 use Rattle.calendar.specs.declared.Duration.{Duration}
 use Rattle.calendar.specs.declared.Start.{Start}
-use Rattle.calendar.specs.declared.Start.the-variants.{Now, At, After}
+use Rattle.calendar.specs.declared.Start.the-variants.{Now, AtTime, After}
 use Rattle.calendar.specs.declared.End.{End}
 use Rattle.calendar.specs.declared.End.the-variants.{Open, Until, During}
 use Rattle.calendar.specs.declared.Moment.{Moment}
-use Rattle.calendar.specs.declared.Moment.the-variants.{Never, At as Then}
-use Rattle.calendar.specs.Limits.{day, lastInstant, mostInstant, isDuration, isPeriod}
+use Rattle.calendar.specs.declared.Moment.the-variants.{Never, At}
+use Rattle.calendar.specs.Limits.{dayLength, lastInstant, mostInstant, isDuration, isPeriod}
 use Rattle.calendar.specs.Times.{duration, plus, timeOfDay, until}
 use Rattle.calendar.specs.Dues.{firstDue, lastAllowed, allowed, nextDue}
 
@@ -30,13 +30,13 @@ UntilIsNext =
 -- AT comes due at the next t.
 abbrev pub AtIsNext : Type 0
 AtIsNext =
-    (day clock t : ℕ) (n : Instant) → t < day → IsNext day clock t n (firstDue day (At t) clock n)
+    (day clock t : ℕ) (n : Instant) → t < day → IsNext day clock t n (firstDue day (AtTime t) clock n)
 
 -- UNTIL ends at the next t, seen from the first due.
 abbrev pub EndIsNext : Type 0
 EndIsNext =
     (day clock t : ℕ) (f : Instant) → t < day →
-    (l : Instant) × (lastAllowed day (Until t) clock f ≡ Then l) × IsNext day clock t f l
+    (l : Instant) × (lastAllowed day (Until t) clock f ≡ At l) × IsNext day clock t f l
 
 -- From now to the present time of day it is no time at all.
 abbrev pub PresentIsNow : Type 0
@@ -66,19 +66,19 @@ FirstIsAllowed =
 abbrev pub NextIsLater : Type 0
 NextIsLater =
     (period : ℕ) (last : Moment) (n m : Instant) →
-    nextDue period last n ≡ Then m →
+    nextDue period last n ≡ At m →
     (n .0 < m .0) × (m .0 ≡ n .0 + period) × (allowed last m ≡ true)
 
 -- Both ends belong: what is allowed goes up to the last instant, itself included, and no further.
 abbrev pub LastBelongs : Type 0
 LastBelongs =
     (l n : Instant) →
-    (n .0 ≤ l .0 → allowed (Then l) n ≡ true) × (l .0 < n .0 → allowed (Then l) n ≡ false)
+    (n .0 ≤ l .0 → allowed (At l) n ≡ true) × (l .0 < n .0 → allowed (At l) n ≡ false)
 
 -- The durations of a start and of an end are in range.
 unfoldable pub startFits : Start → Bool
 startFits Now = true
-startFits (At t) = true
+startFits (AtTime t) = true
 startFits (After d) = isDuration (d .0)
 
 unfoldable pub endFits : End → Bool
@@ -89,19 +89,19 @@ endFits (During d) = isDuration (d .0)
 -- The moment is at most the largest stored instant.
 unfoldable pub isStored : Moment → Bool
 isStored Never = true
-isStored (Then n) = leb (n .0) mostInstant
+isStored (At n) = leb (n .0) mostInstant
 
 -- First, last and next, counted from a present instant, can be stored.
 abbrev pub FirstIsStored : Type 0
 FirstIsStored =
     (clock : ℕ) (s : Start) (n : Instant) →
-    n .0 ≤ lastInstant → startFits s ≡ true → isStored (Then (firstDue day s clock n)) ≡ true
+    n .0 ≤ lastInstant → startFits s ≡ true → isStored (At (firstDue dayLength s clock n)) ≡ true
 
 abbrev pub LastIsStored : Type 0
 LastIsStored =
     (clock : ℕ) (s : Start) (e : End) (n : Instant) →
     n .0 ≤ lastInstant → startFits s ≡ true → endFits e ≡ true →
-    isStored (lastAllowed day e clock (firstDue day s clock n)) ≡ true
+    isStored (lastAllowed dayLength e clock (firstDue dayLength s clock n)) ≡ true
 
 abbrev pub NextIsStored : Type 0
 NextIsStored =

@@ -1,13 +1,13 @@
 // The calendar of the rack kernel: instants, durations and times of day. It knows no tasks.
 ghost use mathlib.Core.Path.{_≡_};
 ghost use Prim.Native.Nat.{_≤_};
-ghost use Rattle.calendar.specs.Limits.{day, mostInstant, isTimeOfDay, isDuration, isPeriod};
+ghost use Rattle.calendar.specs.Limits.{dayLength, mostInstant, isTimeOfDay, isDuration, isPeriod};
 ghost use Rattle.calendar.specs.Times.{plus, timeOfDay, until};
-ghost use Rattle.calendar.specs.Moments.{sameMoment, comesBy, instantOr, upTo};
+ghost use Rattle.calendar.specs.Moments.{sameMoment, comesBy, instantOr, cappedAt};
 ghost use Rattle.calendar.specs.Dues.{firstDue, lastAllowed, allowed, nextDue};
 
 // Instants, durations and times of day are counted in ticks of one millisecond.
-pub const DAY: u32 = 86_400_000;
+pub const DAY_LENGTH: u32 = 86_400_000;
 
 pub const LONGEST_DURATION: u32 = 1_000_000_000;
 
@@ -24,7 +24,7 @@ pub struct Duration(pub u32);
 // When a start first comes due, seen from the instant at which it takes effect.
 pub enum Start {
     Now,
-    At(u32),
+    AtTime(u32),
     After(Duration),
 }
 
@@ -42,9 +42,9 @@ pub enum Moment {
 }
 
 pub fn is_time_of_day(t: u32) -> bool
-    ensures { λ r. ⌜ r ≡ isTimeOfDay day t ⌝ }
+    ensures { λ r. ⌜ r ≡ isTimeOfDay dayLength t ⌝ }
 {
-    t < DAY
+    t < DAY_LENGTH
 }
 
 pub fn is_duration(d: u32) -> bool
@@ -72,18 +72,18 @@ impl Instant {
 
     // Which time of day it is here; clock says what it was at instant 0.
     pub fn time_of_day(self, clock: u32) -> u32
-        ensures { λ r. ⌜ r ≡ timeOfDay day clock self ⌝ }
+        ensures { λ r. ⌜ r ≡ timeOfDay dayLength clock self ⌝ }
     {
-        let day = DAY as u64;
+        let day = DAY_LENGTH as u64;
         let n = self.0 % day;
         ((clock as u64 + n) % day) as u32
     }
 
     // From here to the next time of day t: 0 if it is t now, always less than a day.
     pub fn until(self, clock: u32, t: u32) -> Duration
-        ensures { λ r. ⌜ r ≡ until day clock self t ⌝ }
+        ensures { λ r. ⌜ r ≡ until dayLength clock self t ⌝ }
     {
-        let day = DAY as u64;
+        let day = DAY_LENGTH as u64;
         let past = self.time_of_day(clock) as u64;
         let left = day - past;
         let wait = ((t as u64 + left) % day) as u32;
@@ -109,7 +109,7 @@ impl Moment {
     }
 
     // An instant, and l at the latest.
-    pub fn is_by(self, l: u64) -> bool
+    pub fn comes_by(self, l: u64) -> bool
         ensures { λ r. ⌜ r ≡ comesBy l self ⌝ }
     {
         match self {
@@ -129,8 +129,8 @@ impl Moment {
     }
 
     // The instant as a number, but at most l.
-    pub fn up_to(self, l: u64) -> u64
-        ensures { λ r. ⌜ r ≡ upTo l self ⌝ }
+    pub fn capped_at(self, l: u64) -> u64
+        ensures { λ r. ⌜ r ≡ cappedAt l self ⌝ }
     {
         match self {
             Moment::Never => l,
@@ -147,11 +147,11 @@ impl Moment {
 // First due of a start that takes effect at n.
 pub fn first_due(start: Start, clock: u32, n: Instant) -> Instant
     requires { ⌜ n .0 ≤ mostInstant ⌝ }
-    ensures { λ r. ⌜ r ≡ firstDue day start clock n ⌝ }
+    ensures { λ r. ⌜ r ≡ firstDue dayLength start clock n ⌝ }
 {
     match start {
         Start::Now => n,
-        Start::At(t) => n.plus(n.until(clock, t)),
+        Start::AtTime(t) => n.plus(n.until(clock, t)),
         Start::After(d) => n.plus(d),
     }
 }
@@ -159,7 +159,7 @@ pub fn first_due(start: Start, clock: u32, n: Instant) -> Instant
 // Last allowed due of a start whose first is f; never where there is no end.
 pub fn last_allowed(end: End, clock: u32, f: Instant) -> Moment
     requires { ⌜ f .0 ≤ mostInstant ⌝ }
-    ensures { λ r. ⌜ r ≡ lastAllowed day end clock f ⌝ }
+    ensures { λ r. ⌜ r ≡ lastAllowed dayLength end clock f ⌝ }
 {
     match end {
         End::Open => Moment::Never,

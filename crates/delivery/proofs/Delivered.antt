@@ -5,7 +5,7 @@ use mathlib.Core.Logic.{inl, inr}
 use Prim.Native.Nat.{ℕ}
 use lib.ListN.{length}
 use native.Mathlib.Omega.{arith}
-use Rattle.calendar.specs.Limits.{day}
+use Rattle.calendar.specs.Limits.{dayLength}
 use Rattle.machine.specs.State.{nothing}
 use Rattle.machine.specs.Step.{step}
 use Rattle.machine.specs.Log.{final, log}
@@ -22,26 +22,26 @@ use Rattle.delivery.proofs.Methods.{method-carries}
 
 -- ---- one use is the machine's step
 
-replied : (a : Kernel) (u : Use) → Promised a u → u .reply ≡ reply (step day (a .state) (u .bytes))
-replied a u (inl p) = p .learnt ∙ ap (λ (r : List ℕ). reply (step day (a .state) r)) (p .refers)
+replied : (a : Kernel) (u : Use) → Promised a u → u .reply ≡ reply (step dayLength (a .state) (u .bytes))
+replied a u (inl p) = p .learnt ∙ ap (λ (r : List ℕ). reply (step dayLength (a .state) r)) (p .refers)
 replied a u (inr p) =
     method-carries a (p .learnt)
-    ∙ ap reply (sym (step-is-carry day (a .state) (p .call) (p .four)))
-    ∙ ap (λ (r : List ℕ). reply (step day (a .state) r)) (p .stands)
+    ∙ ap reply (sym (step-is-carry dayLength (a .state) (p .call) (p .four)))
+    ∙ ap (λ (r : List ℕ). reply (step dayLength (a .state) r)) (p .stands)
 
 module _ (a : Kernel) (u : Use) (p : Promised a u) where
-  pub next-state : u .reply .kernel .state ≡ step day (a .state) (u .bytes) .state
+  pub next-state : u .reply .kernel .state ≡ step dayLength (a .state) (u .bytes) .state
   unfolding reply
   next-state = ap (λ (r : Reply). r .kernel .state) (replied a u p)
 
-  pub answered : u .reply .answer ≡ step day (a .state) (u .bytes) .answer
+  pub answered : u .reply .answer ≡ step dayLength (a .state) (u .bytes) .answer
   unfolding reply
   answered = ap (λ (r : Reply). r .answer) (replied a u p)
 
 -- ---- any records
 
 abbrev used : Kernel → List ℕ → Use
-used a r = record { bytes = r; reply = reply (step day (a .state) r) }
+used a r = record { bytes = r; reply = reply (step dayLength (a .state) r) }
 
 used-promised : (a : Kernel) (r : List ℕ) → Promised a (used a r)
 used-promised a r = inl (record { lifetime = []; slice = record { ptr = (0, 0); name = 0; now = r }; refers = refl; learnt = refl })
@@ -56,12 +56,12 @@ any-records (r ∷ rs) a =
 
 -- ---- a list of uses is the machine's list
 
-as-log : (us : List Use) (a : Kernel) → Handed a us → answers us ≡ log day (a .state) (records us)
+as-log : (us : List Use) (a : Kernel) → Handed a us → answers us ≡ log dayLength (a .state) (records us)
 unfolding Handed answers records log
 as-log [] a h = refl
 as-log (u ∷ us) a h = rw (as-log us (u .reply .kernel) (h .1), next-state a u (h .0), answered a u (h .0))
 
-as-final : (us : List Use) (a : Kernel) → Handed a us → last a us .state ≡ final day (a .state) (records us)
+as-final : (us : List Use) (a : Kernel) → Handed a us → last a us .state ≡ final dayLength (a .state) (records us)
 unfolding Handed last records final
 as-final [] a h = refl
 as-final (u ∷ us) a h = rw (as-final us (u .reply .kernel) (h .1), next-state a u (h .0))
@@ -69,13 +69,13 @@ as-final (u ∷ us) a h = rw (as-final us (u .reply .kernel) (h .1), next-state 
 pub code-is-machine : CodeIsMachine
 code-is-machine a us h = record { entries = as-log us a h; state = as-final us a h }
 
-at-each : (us : List Use) (a : Kernel) → Handed a us → AtEachRecord day (a .state) (records us) → AtEachUse a us
+at-each : (us : List Use) (a : Kernel) → Handed a us → AtEachRecord dayLength (a .state) (records us) → AtEachUse a us
 unfolding Handed records AtEachRecord AtEachUse
 at-each [] a h e = tt
 at-each (u ∷ us) a h e =
     (rw (next-state a u (h .0), answered a u (h .0)) (e .0), at-each us (u .reply .kernel) (h .1) (rw (next-state a u (h .0)) (e .1)))
 
-as-balanced : (a : Kernel) (us : List Use) → Handed a us → Balanced day (a .state) (records us) → CodeBalanced a us
+as-balanced : (a : Kernel) (us : List Use) → Handed a us → Balanced dayLength (a .state) (records us) → CodeBalanced a us
 as-balanced a us h b =
     record {
       machine = code-is-machine a us h;
@@ -85,7 +85,7 @@ as-balanced a us h b =
     }
 
 pub code-balances : CodeBalances
-code-balances a f us h o q = as-balanced a us h (balance day is-day (a .state) f (records us) o (rw (← as-log us a h) q))
+code-balances a f us h o q = as-balanced a us h (balance dayLength is-day (a .state) f (records us) o (rw (← as-log us a h) q))
 
 -- ---- a list of uses parts as its records do
 
@@ -127,12 +127,12 @@ split (d ∷ ds) ws (u ∷ us) a h e =
 
 -- ---- from what `Kernel::fresh` hands back
 
-delivered : (a : Kernel) → HandedFresh a → (us : List Use) → Handed a us → (p : Parted day (records us)) → Split a us (p .declaring) (p .working) → Delivered a us
+delivered : (a : Kernel) → HandedFresh a → (us : List Use) → Handed a us → (p : Parted dayLength (records us)) → Split a us (p .declaring) (p .working) → Delivered a us
 delivered a m us h p s =
     let b = last a (s .declaring) in
-    let entries : answers (s .declaring) ≡ log day nothing (p .declaring) = rw (as-log (s .declaring) a (s .first-handed), m, s .first) in
-    let made : b .state ≡ final day nothing (p .declaring) = rw (as-final (s .declaring) a (s .first-handed), m, s .first) in
-    let worked : answers (s .working) ≡ log day (final day nothing (p .declaring)) (p .working) = rw (as-log (s .working) b (s .second-handed), made, s .second) in
+    let entries : answers (s .declaring) ≡ log dayLength nothing (p .declaring) = rw (as-log (s .declaring) a (s .first-handed), m, s .first) in
+    let made : b .state ≡ final dayLength nothing (p .declaring) = rw (as-final (s .declaring) a (s .first-handed), m, s .first) in
+    let worked : answers (s .working) ≡ log dayLength (final dayLength nothing (p .declaring)) (p .working) = rw (as-log (s .working) b (s .second-handed), made, s .second) in
     record {
       declaring = s .declaring;
       working = s .working;
@@ -148,5 +148,5 @@ delivered a m us h p s =
 
 pub fresh-delivers : FreshDelivers
 fresh-delivers a m us h o =
-    let p = all-parted day is-day (records us) o in
+    let p = all-parted dayLength is-day (records us) o in
     delivered a m us h p (split (p .declaring) (p .working) us a h (p .parts))

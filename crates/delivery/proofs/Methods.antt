@@ -1,6 +1,6 @@
 -- Each method's reply is the machine's to the call that it stands for.
 use mathlib.Core.Path.{_≡_}
-use Rattle.calendar.specs.Limits.{day}
+use Rattle.calendar.specs.Limits.{dayLength}
 use Rattle.layout.specs.declared.Call.{Call}
 use Rattle.machine.specs.Step.{carry}
 use Rattle.kernel.specs.Reply.{reply}
@@ -8,7 +8,7 @@ use Rattle.kernel.specs.declared.Kernel.{Kernel}
 use Rattle.kernel.specs.declared.Reply.{Reply}
 use Rattle.delivery.specs.Methods.{Method, declare-task, declare-semaphore, declare-bolt, declare-interrupt, declare-clock, activate, terminate, suspend, prevent, continue-task, end, resume, request, release, try-request, reserve, free, enter, leave, trigger, enable, disable, tick, sleep}
 
-pub method-carries : (a : Kernel) {c : Call} {r : Reply} → Method a c r → r ≡ reply (carry day (a .state) c)
+pub method-carries : (a : Kernel) {c : Call} {r : Reply} → Method a c r → r ≡ reply (carry dayLength (a .state) c)
 method-carries a (declare-task p r e) = e
 method-carries a (declare-semaphore v r e) = e
 method-carries a (declare-bolt r e) = e

@@ -4,7 +4,7 @@ use mathlib.Core.List.{List, [], _∷_, _++_}
 use Prim.Native.Nat.{ℕ, zero, suc, _+_}
 use lib.ListN.{length, drop}
 use lib.Seq.{getD-drop}
-use Rattle.calendar.specs.Limits.{day}
+use Rattle.calendar.specs.Limits.{dayLength}
 use Rattle.layout.specs.Fields.{recordLength, Octets}
 use Rattle.machine.specs.State.{nothing}
 use Rattle.machine.specs.Log.{AllOctets, final}
@@ -40,15 +40,15 @@ all-octets s = octets-cut (length s) s
 
 pub rest-balances : RestBalances
 rest-balances p past q m bytes before after r o u =
-    let k = final day nothing past in
-    let t : Runs day (goingOn k) bytes before after r = rw (← u .refers .0, ← u .refers .1, ← u .refers .2, ← m) (u .learnt) in
-    let c = scripts-carried day (goingOn k) (records bytes) (length before) in
+    let k = final dayLength nothing past in
+    let t : Runs dayLength (goingOn k) bytes before after r = rw (← u .refers .0, ← u .refers .1, ← u .refers .2, ← m) (u .learnt) in
+    let c = scripts-carried dayLength (goingOn k) (records bytes) (length before) in
     record {
       done = c .done;
       split = c .split ∙ ap (λ (l : List (List ℕ)). c .done ++ l) (sym (t .rest));
       text = rw (c .text) at (t .text);
-      script = t .script ∙ c .script ∙ ap goingOn (sym (final-append day nothing past (c .done)));
-      parted = all-parted day is-day (past ++ c .done) (octets-both past (c .done) q (octets-first (c .done) _ (rw (c .split) at (all-octets bytes o))));
+      script = t .script ∙ c .script ∙ ap goingOn (sym (final-append dayLength nothing past (c .done)));
+      parted = all-parted dayLength is-day (past ++ c .done) (octets-both past (c .done) q (octets-first (c .done) _ (rw (c .split) at (all-octets bytes o))));
     }
 
 pub script-balances : ScriptBalances

@@ -7,7 +7,7 @@ use mathlib.Core.Logic.{_⊎_}
 use Prim.Native.Nat.{ℕ}
 use base.Fml.{Lft}
 use denote.Ref.{RefT}
-use Rattle.calendar.specs.Limits.{day}
+use Rattle.calendar.specs.Limits.{dayLength}
 use Rattle.layout.specs.Fields.{FourPlaces, bytesOf}
 use Rattle.layout.specs.declared.Call.{Call}
 use Rattle.machine.specs.Test.{kernelRefusal}
@@ -79,8 +79,8 @@ last a (u ∷ us) = last (u .reply .kernel) us
 
 -- Every answer and the last kernel are the machine's for the same records.
 pub record AsMachine (a : Kernel) (us : List Use) : Type 0 where
-  pub entries : answers us ≡ log day (a .state) (records us)
-  pub state : last a us .state ≡ final day (a .state) (records us)
+  pub entries : answers us ≡ log dayLength (a .state) (records us)
+  pub state : last a us .state ≡ final dayLength (a .state) (records us)
 
 -- So it is for every kernel and any uses.
 abbrev pub CodeIsMachine : Type 0
@@ -91,18 +91,18 @@ CodeIsMachine = (a : Kernel) (us : List Use) → Handed a us → AsMachine a us
 unfoldable pub AtEachUse : Kernel → List Use → Type 0
 AtEachUse a [] = Unit {0}
 AtEachUse a (u ∷ us) =
-    RightStep day (a .state) (u .bytes) (u .reply .answer) (u .reply .kernel .state) × AtEachUse (u .reply .kernel) us
+    RightStep dayLength (a .state) (u .bytes) (u .reply .answer) (u .reply .kernel .state) × AtEachUse (u .reply .kernel) us
 
 pub record CodeBalanced (a : Kernel) (us : List Use) : Type 0 where
   pub machine : AsMachine a us
   pub sums : Sums (a .state) (answers us) (last a us .state)
   pub each : AtEachUse a us
-  pub last-tested : kernelRefusal day (last a us .state) ≡ 0
+  pub last-tested : kernelRefusal dayLength (last a us .state) ≡ 0
 
 -- From any kernel that is fresh, without an accepted declaration.
 abbrev pub CodeBalances : Type 0
 CodeBalances =
-    (a : Kernel) → Fresh day (a .state) → (us : List Use) → Handed a us → AllOctets (records us)
+    (a : Kernel) → Fresh dayLength (a .state) → (us : List Use) → Handed a us → AllOctets (records us)
     → without acceptedDeclaration (answers us) ≡ true → CodeBalanced a us
 
 -- A list of uses in two parts: the first without an accepted call, the second without an accepted declaration.
@@ -115,7 +115,7 @@ pub record Delivered (a : Kernel) (us : List Use) : Type 0 where
   -- no use is refused with 1 or 16
   pub never-turned-away : without turnedAway (answers us) ≡ true
   pub machine : AsMachine a us
-  pub fresh : Fresh day (last a declaring .state)
+  pub fresh : Fresh dayLength (last a declaring .state)
   pub preset : Preset (presets (answers declaring)) (last a declaring .state)
   pub balanced : CodeBalanced (last a declaring) working
 

@@ -5,7 +5,7 @@ use Prim.Native.Nat.{ℕ}
 use lib.ListN.{drop}
 use base.Fml.{Lft}
 use denote.Ref.{RefT}
-use Rattle.calendar.specs.Limits.{day}
+use Rattle.calendar.specs.Limits.{dayLength}
 use Rattle.layout.specs.Fields.{Octets}
 use Rattle.machine.specs.State.{nothing}
 use Rattle.machine.specs.Log.{AllOctets, final, log}
@@ -40,10 +40,10 @@ pub record ScriptBalanced (past : List (List ℕ)) (bytes before after : List �
   pub done : List (List ℕ)
   pub split : records bytes ≡ done ++ records (drop (r .read) bytes)
   -- the lines and the last kernel are the machine's for those done
-  pub text : Wrote before 0 (lines (log day (final day nothing past) done)) after (r .written)
-  pub script : r .script ≡ goingOn (final day nothing (past ++ done))
+  pub text : Wrote before 0 (lines (log dayLength (final dayLength nothing past) done)) after (r .written)
+  pub script : r .script ≡ goingOn (final dayLength nothing (past ++ done))
   -- all together declare first, and then balance
-  pub parted : Parted day (past ++ done)
+  pub parted : Parted dayLength (past ++ done)
 
 -- A script begun on what `Kernel::fresh` hands back, whatever the bytes and the buffer.
 abbrev pub ScriptBalances : Type 0
@@ -54,6 +54,6 @@ ScriptBalances =
 -- And on what was handed back before, as the rest of a script is where the buffer got full.
 abbrev pub RestBalances : Type 0
 RestBalances =
-    (p : Script) (past : List (List ℕ)) → AllOctets past → p ≡ goingOn (final day nothing past)
+    (p : Script) (past : List (List ℕ)) → AllOctets past → p ≡ goingOn (final dayLength nothing past)
     → (bytes before after : List ℕ) (r : Ran) → Octets bytes
     → RunBy p bytes before after r → ScriptBalanced past bytes before after r

@@ -3,7 +3,7 @@
 use mathlib.Core.Path.{_≡_}
 use mathlib.Core.List.{List}
 use Prim.Native.Nat.{ℕ}
-use Rattle.calendar.specs.Limits.{day}
+use Rattle.calendar.specs.Limits.{dayLength}
 use Rattle.calendar.specs.declared.Moment.{Moment}
 use Rattle.task.specs.State.{runnable}
 use Rattle.machine.specs.State.{taskAt}
@@ -28,7 +28,7 @@ RunsIn k r = Chosen (k .counts .tasks) (λ i. runnable (taskAt (k .tasks) i)) (k
 
 -- So it is for every kernel that is refused with neither 1 nor 16,
 abbrev pub ShowsRunner : Type 0
-ShowsRunner = (a : Kernel) (r : Running) → kernelRefusal day (a .state) ≡ 0 → HandedOut a r → RunsIn (a .state) r
+ShowsRunner = (a : Kernel) (r : Running) → kernelRefusal dayLength (a .state) ≡ 0 → HandedOut a r → RunsIn (a .state) r
 
 -- and for every kernel that uses leave, from what `Kernel::fresh` hands back on.
 abbrev pub FreshShowsRunner : Type 0
@@ -42,7 +42,7 @@ HandedNext a m = next.Learnt tt (a, tt) m (a, tt)
 
 -- It is the next event of every kernel that is refused with neither 1 nor 16,
 abbrev pub ShowsNext : Type 0
-ShowsNext = (a : Kernel) (m : Moment) → kernelRefusal day (a .state) ≡ 0 → HandedNext a m → IsNextEvent (a .state) m
+ShowsNext = (a : Kernel) (m : Moment) → kernelRefusal dayLength (a .state) ≡ 0 → HandedNext a m → IsNextEvent (a .state) m
 
 -- and of every kernel that uses leave, from what `Kernel::fresh` hands back on.
 abbrev pub FreshShowsNext : Type 0

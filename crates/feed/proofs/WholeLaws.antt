@@ -9,7 +9,7 @@ use lib.Dec.{ltb, eqb}
 use lib.ListN.{length}
 use borrow.Author.Tests.{lt-ltb, le-ltb, eq-eqb, ne-eqb}
 use Rattle.layout.specs.Fields.{recordLength}
-use Rattle.lock.proofs.Bools.{byBool, byEq}
+use Rattle.facts.proofs.Bools.{byBool, byEq}
 use Rattle.feed.specs.Feeding.{wholeOf, ReadOn}
 use Rattle.feed.specs.declared.Fed.{Fed}
 

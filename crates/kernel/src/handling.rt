@@ -1,14 +1,14 @@
 // A kernel handed on: made, asked, and stepped by bytes or by a call.
 ghost use mathlib.Core.Path.{_≡_};
-ghost use Rattle.calendar.specs.Limits.{day};
+ghost use Rattle.calendar.specs.Limits.{dayLength};
 ghost use Rattle.machine.specs.State.{nothing};
 ghost use Rattle.machine.specs.Step.{step, carry};
 ghost use Rattle.kernel.specs.Reply.{reply};
 use crate::Kernel;
 use crate::Reply;
 use calendar::Moment;
-use calls::step::step;
-use declaring::fresh::fresh;
+use kernel_declaring::fresh::fresh;
+use kernel_step::step;
 use layout::Call;
 use layout::fields::bytes_of;
 use machine::Running;
@@ -52,7 +52,7 @@ impl Kernel {
 
     // The machine's step over bytes of any length.
     pub fn step(self, s: &[u8]) -> Reply
-        ensures { λ r. ⌜ r ≡ reply (step day (self .state) (now (s .entry))) ⌝ }
+        ensures { λ r. ⌜ r ≡ reply (step dayLength (self .state) (now (s .entry))) ⌝ }
     {
         let stepped = step(self.state, s);
         replied(stepped)
@@ -60,7 +60,7 @@ impl Kernel {
 
     // A call or declaration, by its record.
     pub(crate) fn carry(self, c: Call) -> Reply
-        ensures { λ r. ⌜ r ≡ reply (carry day (self .state) c) ⌝ }
+        ensures { λ r. ⌜ r ≡ reply (carry dayLength (self .state) c) ⌝ }
     {
         let record = bytes_of(c);
         self.step(&record)

@@ -1,4 +1,3 @@
--- Tests that hold, and marks and fields, there and back.
-pub mod Tests
+-- Marks and fields, there and back.
 pub mod MarksLaws
 pub mod FieldsLaws

@@ -14,7 +14,7 @@ use Rattle.layout.specs.declared.Mark.{Mark}
 use Rattle.layout.specs.declared.Mark.the-variants.{DT, DS, DB, IT, DC, AC, TE, SU, PR, CO, EN, RE, RQ, RL, TR, RS, FR, ET, LV, TG, EI, XI, TI, SL}
 use Rattle.layout.specs.declared.Marked.the-variants.{Unknown, Known}
 use Rattle.layout.specs.Marks.{code, is, marks, among, markOf}
-use Rattle.layout.proofs.Tests.{both}
+use Rattle.facts.proofs.Bools.{both}
 use Rattle.layout.proofs.Mark as MarkT
 
 -- Each mark is the only one with its letters, and stands at its place in the list.

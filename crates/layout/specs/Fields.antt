@@ -11,6 +11,14 @@ use Rattle.layout.specs.Marks.{code}
 abbrev pub recordLength : ℕ
 recordLength = 24
 
+-- the most numbers that a list names
+abbrev pub mostNumbers : ℕ
+mostNumbers = 4
+
+-- the list of a call that takes none
+abbrev pub noList : List ℕ
+noList = 0 ∷ 0 ∷ 0 ∷ 0 ∷ []
+
 abbrev pub byte : List ℕ → ℕ → ℕ
 byte s i = getD s i 0
 
@@ -63,7 +71,7 @@ bytesOf c =
 
 -- A list has four places, as in every call of the code.
 abbrev pub FourPlaces : Call → Type 0
-FourPlaces c = length (c .list) ≡ 4
+FourPlaces c = length (c .list) ≡ mostNumbers
 
 -- Each element is a byte.
 abbrev pub Octets : List ℕ → Type 0

@@ -65,8 +65,14 @@ pub struct Head {
     pub endtime: u32,
 }
 
+// The most numbers that a list names.
+pub const MOST_NUMBERS: u8 = 4;
+
 // The list of a call: one to four numbers, then zeros.
-pub type Numbers = [u8; 4];
+pub type Numbers = [u8; MOST_NUMBERS as usize];
+
+// The list of a call that takes none.
+pub const NO_LIST: Numbers = [0, 0, 0, 0];
 
 // The bytes of a record.
 pub type Bytes = [u8; RECORD_LENGTH];

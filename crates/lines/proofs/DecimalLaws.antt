@@ -8,7 +8,7 @@ use native.Mathlib.Nat.{pow-suc}
 use lib.Dec.{ltb}
 use lib.ListN.{length, length-append}
 use borrow.Author.Tests.{lt-ltb, le-ltb, ltb-true, ltb-false, le-leb}
-use Rattle.lock.proofs.Bools.{byBool, both, and-both}
+use Rattle.facts.proofs.Bools.{byBool, both, and-both}
 use Rattle.lines.specs.Decimals.{digit, spelt, decimal, valueAfter, value, isDigit, allDigits, PrintedReadsBack, DigitsAlone}
 
 -- ---- split by split

@@ -11,7 +11,7 @@ use Rattle.machine.specs.Sets.{Set, Due, Started, Ended, Lost, Granted, members
 use Rattle.machine.specs.declared.Answer.{Answer}
 use Rattle.machine.specs.declared.Running.{Running}
 use Rattle.machine.specs.declared.Running.the-variants.{Idle, Runs}
-use Rattle.lock.proofs.Bools.{both}
+use Rattle.facts.proofs.Bools.{both}
 use Rattle.lines.specs.Decimals.{spelt, decimal, value, isDigit, allDigits}
 use Rattle.lines.specs.Lines.{space, dash, lineFeed, runningText, setsText, line, RunningByte, NoLineLonger, LinesReadBack}
 use Rattle.lines.proofs.DecimalLaws.{printed-reads-back, digits-alone, byte-long, word-long}

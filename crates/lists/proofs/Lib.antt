@@ -2,3 +2,5 @@
 pub mod ListsLaws
 pub mod ZeroLaws
 pub mod Theorems
+pub mod EveryLaws
+pub mod SeenLaws

@@ -8,7 +8,7 @@ use borrow.Author.Tests.{eqb-true, eq-eqb}
 use lib.Dec.{eqb}
 use lib.ListN.{take, drop, getD}
 use lib.Seq.{getD-drop}
-use Rattle.layout.proofs.Tests.{both}
+use Rattle.facts.proofs.Bools.{both}
 use Rattle.lists.specs.Lists.{joined, allZero}
 use Rattle.lists.specs.Promises.{JoinedIsZero, StretchIsZero}
 use Rattle.lists.proofs.ZeroLaws.{joined-zero}

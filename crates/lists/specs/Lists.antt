@@ -28,3 +28,8 @@ names (y ∷ l) x = eqb y x || names l x
 unfoldable pub distinct : List ℕ → Bool
 distinct [] = true
 distinct (x ∷ l) = not (names l x) && distinct l
+
+-- A test of each number of a list.
+unfoldable pub every : (ℕ → Bool) → List ℕ → Bool
+every f [] = true
+every f (x ∷ l) = f x && every f l

@@ -10,7 +10,7 @@ use Rattle.lock.specs.declared.Locks.{Locks}
 use Rattle.lock.specs.Locks.{emptyBolt, valueAt, boltAt, canMove, moveOne, forEach, moveAll}
 use Rattle.lock.proofs.Changes.{onValue, onBolt, move-cases}
 use Rattle.lock.proofs.Levels.{Same, can-same}
-use Rattle.lock.proofs.Tables.{Like, like-set}
+use Rattle.facts.proofs.Tables.{Like, like-set}
 
 -- How many numbers of a kind are declared, of s semaphores and b bolts.
 abbrev pub below : ℕ → ℕ → Wait → ℕ

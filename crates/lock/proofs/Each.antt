@@ -1,31 +1,16 @@
--- A test or a change of a list is one of each number that it names.
+-- A change of a list is one of each number that it names.
 use mathlib.Core.Path.{_≡_, refl, sym, _∙_}
-use mathlib.Core.Bool.{Bool, true, false, not}
+use mathlib.Core.Bool.{true, false, not}
 use mathlib.Core.List.{List, [], _∷_}
 use Prim.Native.Nat.{ℕ}
 use borrow.Author.Tests.{ne-eqb, not-true}
 use Rattle.lists.specs.Lists.{names, distinct}
 use Rattle.lock.specs.declared.Locks.{Locks}
-use Rattle.lock.specs.Locks.{moveOne, every, forEach}
-use Rattle.lock.specs.Promises.{EveryIsEach, SameAt, Each, ListIsEach}
-use Rattle.lock.proofs.Bools.{byEq, contra, both, and-both}
-use Rattle.lock.proofs.Lists.{names-head, names-same, every-at}
+use Rattle.lock.specs.Locks.{moveOne, forEach}
+use Rattle.lock.specs.Promises.{SameAt, Each, ListIsEach}
+use Rattle.facts.proofs.Bools.{byEq, contra, both}
+use Rattle.lists.proofs.EveryLaws.{names-head, names-same}
 use Rattle.lock.proofs.Changes.{Local, move-local}
-
--- ---- tests
-
-pub names-tail : (x y : ℕ) (l : List ℕ) → names l y ≡ true → names (x ∷ l) y ≡ true
-names-tail x y l n = byEq x y (λ q. rw q (names-same y l)) (λ q. rw (names-head x y l q) n)
-
-pub every-from : (f : ℕ → Bool) (l : List ℕ) → ((x : ℕ) → names l x ≡ true → f x ≡ true) → every f l ≡ true
-unfolding every
-every-from f [] h = refl
-every-from f (y ∷ l) h = and-both (h y (names-same y l)) (every-from f l (λ x n. h x (names-tail y x l n)))
-
-pub every-is-each : EveryIsEach
-every-is-each f l = (λ e x n. every-at f l x e n, every-from f l)
-
--- ---- changes
 
 same-trans : (r s t : Locks) (x : ℕ) → SameAt r s x → SameAt s t x → SameAt r t x
 same-trans r s t x p q = record { value = p .value ∙ q .value; bolt = p .bolt ∙ q .bolt }

@@ -12,9 +12,10 @@ use Rattle.lock.specs.declared.Wait.the-variants.{Nothing, Request, Rese
 use Rattle.lock.specs.declared.Bolt.{Bolt}
 use Rattle.lock.specs.declared.Locks.{Locks}
 use Rattle.lock.specs.Locks.{boltAt, withBolt, level, canMove, moveOne, canMoveAll, moveAll}
-use Rattle.lock.proofs.Bools.{byEq, contra, both, bit-one}
+use Rattle.facts.proofs.Bools.{byEq, contra, both}
 use Rattle.lock.proofs.Levels.{places, Proper, bolt, bolt-same, bolt-other}
 use Rattle.lock.proofs.Taking.{move-keeps}
+use Rattle.lock.proofs.Bits.{bit-one}
 
 -- A bolt with a writer has no reader.
 abbrev pub Alone : Bolt → Type 0

@@ -9,7 +9,7 @@ use lib.Dec.{ltb, eqb}
 use lib.ListN.{length, length-set}
 use lib.Seq.{getD-set-same, getD-set-other}
 use borrow.Author.Tests.{ltb-true, eq-eqb, ne-eqb, not-true}
-use Rattle.lists.specs.Lists.{distinct}
+use Rattle.lists.specs.Lists.{distinct, every}
 use Rattle.record.specs.Refusals.{mostValue}
 use Rattle.lock.specs.declared.Way.{Way}
 use Rattle.lock.specs.declared.Way.the-variants.{Take, Give}
@@ -17,10 +17,11 @@ use Rattle.lock.specs.declared.Wait.{Wait}
 use Rattle.lock.specs.declared.Wait.the-variants.{Nothing, Request, Reserve, Enter}
 use Rattle.lock.specs.declared.Bolt.{Bolt}
 use Rattle.lock.specs.declared.Locks.{Locks}
-use Rattle.lock.specs.Locks.{emptyBolt, valueAt, boltAt, withValue, withBolt, bit, sameKind, level, canMove, moveOne, every}
+use Rattle.lock.specs.Locks.{emptyBolt, valueAt, boltAt, withValue, withBolt, bit, sameKind, level, canMove, moveOne}
 use Rattle.lock.specs.Promises.{SameAt}
-use Rattle.lock.proofs.Bools.{byEq, contra, both, bit-le}
+use Rattle.facts.proofs.Bools.{byEq, contra, both}
 use Rattle.lock.proofs.Changes.{move-cases, move-local}
+use Rattle.lock.proofs.Bits.{bit-le}
 
 -- Lists that count the same are of one kind.
 pub same-kind : (v w : Wait) → sameKind v w ≡ true → v ≡ w

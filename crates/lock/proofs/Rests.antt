@@ -4,17 +4,17 @@ use mathlib.Core.Logic.{_≢_}
 use mathlib.Core.Bool.{Bool, true, false, not}
 use mathlib.Core.List.{List, [], _∷_}
 use Prim.Native.Nat.{ℕ, zero, suc, _+_, _<_, _≤_}
-use native.Mathlib.Numerals.{add-one}
 use native.Mathlib.Nat.{le-antisymm}
 use native.Mathlib.Omega.{arith}
 use lib.Dec.{ltb}
 use lib.ListN.{length, getD, take, drop}
-use lib.Seq.{slice, slice-cons, slice-empty}
+use lib.Seq.{slice, slice-empty}
 use borrow.Author.Tests.{ltb-true, not-true, not-false}
-use Rattle.lists.specs.Lists.{distinct}
+use Rattle.lists.specs.Lists.{distinct, every}
 use Rattle.lock.specs.declared.Locks.{Locks}
-use Rattle.lock.specs.Locks.{mostLocks, every, forEach}
-use Rattle.lock.proofs.Lists.{distinct-parts, every-parts, every-same}
+use Rattle.lock.specs.Locks.{mostLocks, forEach}
+use Rattle.lists.proofs.SeenLaws.{slice-next}
+use Rattle.lists.proofs.EveryLaws.{distinct-parts, every-parts, every-same}
 
 -- A list has n numbers, each of a lock.
 pub record Named (l : List ℕ) (n : ℕ) : Type 0 where
@@ -34,10 +34,6 @@ pub record Changed (op : Locks → ℕ → Locks) (test : Locks → ℕ → Bool
   pub once : distinct (slice j n l) ≡ true
   pub ready : every (test r) (slice j n l) ≡ true
   pub rest : forEach op r₀ (take n l) ≡ forEach op r (slice j n l)
-
--- What is left from j on begins with the number at j.
-pub slice-next : (l : List ℕ) (n j : ℕ) → n ≤ length l → j < n → slice j n l ≡ getD l j 0 ∷ slice (j + 1) n l
-slice-next l n j short less = rw add-one (slice-cons j n l 0 less short)
 
 next : {l : List ℕ} {n j : ℕ} → Named l n → j < n → slice j n l ≡ getD l j 0 ∷ slice (j + 1) n l
 next {l} {n} {j} h less = slice-next l n j (h .short) less

@@ -13,8 +13,8 @@ use Rattle.lock.specs.declared.Wait.{Wait}
 use Rattle.lock.specs.declared.Wait.the-variants.{Reserve}
 use Rattle.lock.specs.declared.Locks.{Locks}
 use Rattle.lock.specs.Locks.{boltAt, bit, sameKind, level, canMove, moveOne, forEach, canMoveAll, moveAll}
-use Rattle.lock.proofs.Bools.{bit-le}
-use Rattle.lock.proofs.Lists.{distinct-parts, every-parts, every-same, count-split, names-none}
+use Rattle.lock.proofs.Bits.{bit-le, count-split, names-none}
+use Rattle.lists.proofs.EveryLaws.{distinct-parts, every-parts, every-same}
 use Rattle.lock.proofs.Levels.{Moved, moved-none, moved-add, places, Proper, SameSize, size-refl, size-places, size-move, can-stays, move-one, most-one}
 
 -- The number that a list names, as a count.

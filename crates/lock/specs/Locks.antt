@@ -4,6 +4,7 @@ use mathlib.Core.List.{List, [], _∷_}
 use Prim.Native.Nat.{ℕ, _+_, _-_}
 use lib.ListN.{getD, set}
 use lib.Dec.{ltb, eqb}
+use Rattle.lists.specs.Lists.{every}
 use Rattle.record.specs.Refusals.{mostValue}
 use Rattle.lock.specs.declared.Wait.{Wait}
 use Rattle.lock.specs.declared.Wait.the-variants.{Nothing, Request, Reserve, Enter}
@@ -87,18 +88,13 @@ moveOne Give Request r x = withValue r x (valueAt r x + 1)
 moveOne Give Reserve r x = withBolt r x (record { writer = false; readers = boltAt r x .readers })
 moveOne Give Enter r x = withBolt r x (record { writer = boltAt r x .writer; readers = boltAt r x .readers - 1 })
 
-abbrev pub free : Wait → Locks → ℕ → Bool
-free = canMove Take
+abbrev pub isFree : Wait → Locks → ℕ → Bool
+isFree = canMove Take
 
-abbrev pub taken : Wait → Locks → ℕ → Bool
-taken = canMove Give
+abbrev pub returnable : Wait → Locks → ℕ → Bool
+returnable = canMove Give
 
 -- ---- a list of numbers
-
--- A test of each number of a list.
-unfoldable pub every : (ℕ → Bool) → List ℕ → Bool
-every f [] = true
-every f (x ∷ l) = f x && every f l
 
 -- A change for each number of a list.
 unfoldable pub forEach : (Locks → ℕ → Locks) → Locks → List ℕ → Locks
@@ -113,8 +109,8 @@ abbrev pub moveAll : Way → Wait → Locks → List ℕ → Locks
 moveAll way w r l = forEach (moveOne way w) r l
 
 -- Every number of the list is free.
-abbrev pub grantable : Wait → Locks → List ℕ → Bool
-grantable = canMoveAll Take
+abbrev pub allFree : Wait → Locks → List ℕ → Bool
+allFree = canMoveAll Take
 
 abbrev pub takeAll : Wait → Locks → List ℕ → Locks
 takeAll = moveAll Take

@@ -1,19 +1,13 @@
--- What tests and changes of a list mean for each number. Proved in proofs/Each.antt.
+-- What a change of a list means for each number. Proved in proofs/Each.antt.
 use mathlib.Core.Path.{_≡_}
-use mathlib.Core.Logic.{_↔_}
-use mathlib.Core.Bool.{Bool, true, false}
+use mathlib.Core.Bool.{true, false}
 use mathlib.Core.List.{List}
 use Prim.Native.Nat.{ℕ}
 use Rattle.lists.specs.Lists.{names, distinct}
 use Rattle.lock.specs.declared.Wait.{Wait}
 use Rattle.lock.specs.declared.Way.{Way}
 use Rattle.lock.specs.declared.Locks.{Locks}
-use Rattle.lock.specs.Locks.{valueAt, boltAt, moveOne, every, forEach}
-
--- A list passes a test exactly when each number that it names does.
-abbrev pub EveryIsEach : Type 0
-EveryIsEach =
-    (f : ℕ → Bool) (l : List ℕ) → (every f l ≡ true) ↔ ((x : ℕ) → names l x ≡ true → f x ≡ true)
+use Rattle.lock.specs.Locks.{valueAt, boltAt, moveOne, forEach}
 
 -- Two states of the locks have the same at number x.
 pub record SameAt (r s : Locks) (x : ℕ) : Type 0 where

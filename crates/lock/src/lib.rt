@@ -4,8 +4,9 @@ ghost use mathlib.Core.Bool.{true};
 ghost use Prim.Native.Nat.{ℕ, _<_, _≤_};
 ghost use lib.ListN.{take};
 ghost use lib.Dec.{ltb};
-ghost use Rattle.lists.specs.Lists.{distinct};
-ghost use Rattle.lock.specs.Locks.{mostLocks, waiting, valueAt, boltAt, canMove, moveOne, every, canMoveAll, moveAll};
+ghost use Rattle.layout.specs.Fields.{mostNumbers};
+ghost use Rattle.lists.specs.Lists.{distinct, every};
+ghost use Rattle.lock.specs.Locks.{mostLocks, waiting, valueAt, boltAt, canMove, moveOne, canMoveAll, moveAll};
 use layout::Numbers;
 
 // The places of the table of semaphores, and of that of bolts.
@@ -109,7 +110,7 @@ impl Locks {
 
     // Whether each of the first n numbers of a list can be taken, or given back.
     pub fn can_move_all(self, way: Way, w: Wait, n: usize, list: Numbers) -> bool
-        requires { ⌜ n ≤ 4 ⌝ }
+        requires { ⌜ n ≤ mostNumbers ⌝ }
         requires { ⌜ every (λ x. ltb x mostLocks) (take n list) ≡ true ⌝ }
         ensures { λ r. ⌜ r ≡ canMoveAll way w self (take n list) ⌝ }
     {
@@ -125,7 +126,7 @@ impl Locks {
 
     // The first n numbers of a list, each taken or given back once.
     pub fn move_all(self, way: Way, w: Wait, n: usize, list: Numbers) -> Locks
-        requires { ⌜ n ≤ 4 ⌝ }
+        requires { ⌜ n ≤ mostNumbers ⌝ }
         requires { ⌜ every (λ x. ltb x mostLocks) (take n list) ≡ true ⌝ }
         requires { ⌜ distinct (take n list) ≡ true ⌝ }
         requires { ⌜ canMoveAll way w self (take n list) ≡ true ⌝ }

@@ -10,7 +10,7 @@ use lib.Seq.{getD-set-same}
 use borrow.Author.Tests.{ltb-true, ltb-false, leb-true, leb-false}
 use Rattle.calendar.specs.declared.Instant.{Instant}
 use Rattle.layout.specs.declared.Call.{Call}
-use Rattle.lock.proofs.Bools.{byBool, byEq, contra}
+use Rattle.facts.proofs.Bools.{byBool, byEq, contra}
 use Rattle.lock.specs.declared.Wait.the-variants.{Nothing}
 use Rattle.schedule.specs.declared.Alarm.{Alarm}
 use Rattle.task.specs.State.{noTask, waitOver}
@@ -27,7 +27,7 @@ use Rattle.machine.specs.Work.{Work, changed, everyTurn}
 use Rattle.machine.specs.Test.{valid, kernelRefusal}
 use Rattle.machine.specs.Sorts.{sortOf, declaring, declares}
 use Rattle.machine.specs.Calls.{workBy}
-use Rattle.machine.specs.Step.{refuse, finish, orRefuse, orTurnAway, carryOut, step}
+use Rattle.machine.specs.Step.{answered, finish, orRefuse, orTurnAway, carryOut, step}
 use Rattle.machine.specs.Continuing.{SameButWait, ServingKeeps, Accepts, taskAfter}
 use Rattle.machine.proofs.Below.{all-at}
 use Rattle.machine.proofs.Passed.{parts, refusalOf}
@@ -112,7 +112,7 @@ module _ (day : ℕ) (k : State) (v : valid day k ≡ true) where
 
 -- What has number 0 isn't turned away.
 not-away : (k : State) (n : ℕ) (z : Stepped) → orTurnAway k n z .answer .number ≡ 0 → n ≡ 0
-unfolding refuse
+unfolding answered
 not-away k zero z e = refl
 not-away k (suc n) z e = e
 
@@ -125,7 +125,7 @@ module _ (day : ℕ) (k : State) (s : List ℕ) (c : Call) (h : Accepts day k s 
   step-by = step-on day k s accepts-taken ∙ rw (h .opens) (carried-by day k c)
 
   pub no-refusal : refusalOf day k c ≡ 0
-  unfolding refuse
+  unfolding answered
   no-refusal = go (refusalOf day k c) (ap (λ x. x .answer .number) (sym step-by) ∙ h .number)
     where
       go : (n : ℕ) → orRefuse k n (carryOut day k c) .answer .number ≡ 0 → n ≡ 0

@@ -14,7 +14,7 @@ use Rattle.layout.specs.declared.Call.{Call}
 use Rattle.calendar.specs.Moments.{firstAfter}
 use Rattle.calendar.specs.declared.Instant.{Instant}
 use Rattle.calendar.specs.declared.Moment.{Moment}
-use Rattle.lock.proofs.Bools.{byBool, contra, byEq}
+use Rattle.facts.proofs.Bools.{byBool, contra, byEq}
 use Rattle.task.specs.Coming.{pendings}
 use Rattle.task.specs.State.{noTask, runnable}
 use Rattle.task.specs.declared.Task.{Task}
@@ -27,7 +27,7 @@ use Rattle.machine.specs.Test.{valid, kernelRefusal}
 use Rattle.machine.specs.Refusals.{roomFor}
 use Rattle.machine.specs.Calls.{addTask, addSemaphore, addBolt, addInterrupt, declaration}
 use Rattle.machine.specs.Work.{Work}
-use Rattle.machine.specs.Step.{refuse, finish, declared, carryOut, step}
+use Rattle.machine.specs.Step.{answered, finish, declared, carryOut, step}
 use Rattle.machine.specs.Promises.{AnswersRunner, AnswersFirst, AreBytes}
 use Rattle.machine.proofs.Urgency.{runner-first, scan-same}
 use Rattle.machine.proofs.NextEvent.{pending-same}
@@ -81,8 +81,8 @@ module _ (day : ℕ) (k : State) (l : k .counts .tasks ≤ mostTasks) (b : AreBy
   unfolding finish
   right-finish w = record { runs = refl; bytes = λ i h. moved-below (k .counts .tasks) mostPlaces _ (k .counts .tasks) (k .places) (omega arith) i (b i h) }
 
-  right-refuse : (n : ℕ) → Right (refuse k n (runner k))
-  unfolding refuse
+  right-refuse : (n : ℕ) → Right (answered k n (runner k))
+  unfolding answered
   right-refuse n = record { runs = refl; bytes = b }
 
   right-declared : (d : State) → runner d ≡ runner k → AreBytes (d .counts .tasks) (d .places) → Right (declared k d)

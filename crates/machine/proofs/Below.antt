@@ -7,7 +7,7 @@ use native.Mathlib.Nat.{not-suc-le-zero}
 use native.Mathlib.Omega.{arith}
 use lib.Dec.{ltb}
 use borrow.Author.Tests.{ltb-true, ltb-false}
-use Rattle.lock.proofs.Bools.{byBool, byEq, contra, both, and-both}
+use Rattle.facts.proofs.Bools.{byBool, byEq, contra, both, and-both}
 use Rattle.machine.specs.Sums.{sumBelow, allBelow}
 use Rattle.machine.specs.Running.{mostUrgent, better}
 use Rattle.machine.specs.declared.Running.{Running}

@@ -11,9 +11,9 @@ use Rattle.layout.proofs.MarksLaws.{is-mark}
 use Rattle.layout.specs.declared.Call.{Call}
 use Rattle.lock.specs.Locks.{emptyBolt}
 use Rattle.lock.specs.declared.Locks.{Locks}
-use Rattle.lock.proofs.Bools.{byBool}
+use Rattle.facts.proofs.Bools.{byBool}
 use Rattle.record.specs.Reading.{opened}
-use Rattle.lock.proofs.Tables.{Like, like-add}
+use Rattle.facts.proofs.Tables.{Like, like-add}
 use Rattle.lock.proofs.Alike.{Alike, Seen}
 use Rattle.task.specs.State.{noTask}
 use Rattle.task.specs.declared.Task.{Task}
@@ -31,7 +31,7 @@ use Rattle.machine.specs.Refusals.{roomFor}
 use Rattle.machine.specs.Calls.{addTask, addSemaphore, addBolt, addInterrupt, declaration}
 use Rattle.machine.specs.declared.Sets.{Sets}
 use Rattle.machine.specs.Sets.{withGranted}
-use Rattle.machine.specs.Step.{refuse, finish, declared, orRefuse, orTurnAway, carryOut, carryOn, step}
+use Rattle.machine.specs.Step.{answered, finish, declared, orRefuse, orTurnAway, carryOut, carryOn, step}
 use Rattle.machine.specs.Log.{log}
 use Rattle.machine.specs.Invariants.{Tables}
 use Rattle.machine.specs.Beyond.{Agree, Match, StepsAgree, LogsAgree}
@@ -121,8 +121,8 @@ module _ (day : ℕ) (k : State) (ts : List Task) (ps : List ℕ) (r : Locks) (i
   same-file : fileOf k ≡ fileOf k′
   same-file = let e = next-same k ts ps r is (a .tasks) (a .places) sees in λ i. record { running = same-runner i; next = e i }
 
-  refuse-match : (m : ℕ) → Match (refuse k m (runner k)) (refuse k′ m (runner k′))
-  unfolding refuse
+  refuse-match : (m : ℕ) → Match (answered k m (runner k)) (answered k′ m (runner k′))
+  unfolding answered
   refuse-match m = record { answer = rw same-runner; state = a }
 
   declared-match : (d d′ : State) → Agree d d′ → Match (declared k d) (declared k′ d′)
@@ -214,7 +214,7 @@ module _ (day : ℕ) (k : State) (ts : List Task) (ps : List ℕ) (r : Locks) (i
       go zero v =
           let t = tested day k (taken-valid day k v) in
           opened-cases s (λ o. Match (stepOpened day k (o .answer) (o .list)) (stepOpened day k′ (o .answer) (o .list))) (refuse-match 2) (on-match (t .fits) t)
-      go (suc m) v = unfold refuse in record { answer = refl; state = a }
+      go (suc m) v = unfold answered in record { answer = refl; state = a }
 
 -- A kernel that agrees with k is k with other tables.
 pub steps-agree : StepsAgree

@@ -14,7 +14,7 @@ use Rattle.calendar.specs.declared.Moment.{Moment}
 use Rattle.layout.specs.Marks.{is, markOf, form}
 use Rattle.layout.specs.Fields.{recordLength, letters, callOf}
 use Rattle.layout.proofs.MarksLaws.{is-mark}
-use Rattle.record.specs.Refusals.{named, unless, before, formed, listed, timed, shape, times}
+use Rattle.record.specs.Refusals.{named, unless, firstRefusal, formed, listed, timed, shape, times}
 use Rattle.record.specs.Reading.{refused, accepted, callWith, withMark, opened, orRefused}
 use Rattle.layout.specs.declared.Marked.{Marked}
 use Rattle.layout.specs.declared.Marked.the-variants.{Unknown, Known}
@@ -24,11 +24,11 @@ use Rattle.record.specs.declared.Read.{Read}
 use Rattle.record.specs.declared.Read.the-variants.{Refused, Accepted}
 use Rattle.record.specs.declared.Reading.{Reading}
 use Rattle.layout.specs.declared.Call.{Call}
-use Rattle.lock.specs.Locks.{waiting, every, taken}
+use Rattle.lock.specs.Locks.{waiting, returnable}
 use Rattle.lock.specs.declared.Locks.{Locks}
 use Rattle.lock.specs.declared.Wait.{Wait}
 use Rattle.lock.specs.declared.Wait.the-variants.{Nothing, Request, Reserve, Enter}
-use Rattle.lock.proofs.Bools.{byBool, contra}
+use Rattle.facts.proofs.Bools.{byBool, contra}
 use Rattle.task.specs.State.{unheld, suspended}
 use Rattle.task.specs.declared.Task.{Task}
 use Rattle.machine.specs.declared.State.{State}
@@ -42,9 +42,10 @@ use Rattle.machine.specs.Test.{valid, filed, kernelRefusal}
 use Rattle.machine.specs.Sorts.{sortOf, declares, needsRunner, givenKind}
 use Rattle.machine.specs.Refusals.{declaredIn, roomFor, formalRefusal, admittedIf, admitted, unreturnable, isContinue, refusalBy, stateRefusal}
 use Rattle.machine.specs.Calls.{addTask, addSemaphore, addBolt, addInterrupt, declaration, workOf}
-use Rattle.machine.specs.Step.{refuse, finish, declared, orRefuse, orTurnAway, carryOut, settle, carryOn, carry, stepRead, step}
+use Rattle.machine.specs.Step.{answered, finish, declared, orRefuse, orTurnAway, carryOut, settle, carryOn, carry, stepRead, step}
 use Rattle.machine.proofs.Filing.{filed-from}
 use Rattle.machine.proofs.Passed.{refusalOf}
+use Rattle.lists.specs.Lists.{every}
 
 -- ---- bytes
 
@@ -72,7 +73,7 @@ late-unless false n rest p q = p
 late-last : (b : Bool) (n : ℕ) → Late n → Late (unless b n 0)
 late-last b n p = late-unless b n 0 p (omega arith)
 
-late-before : (n rest : ℕ) → Late n → Late rest → Late (before n rest)
+late-before : (n rest : ℕ) → Late n → Late rest → Late (firstRefusal n rest)
 late-before zero rest p q = q
 late-before (suc n) rest p q = p
 
@@ -104,7 +105,7 @@ late-state m c r t l n e =
     (late-unless (not (is m TE || is m SU || isContinue m (c .head)) || t .alive) 10 _ (omega arith)
     (late-unless (not (is m SU) || not (suspended (t .hold))) 11 _ (omega arith)
     (late-unless (not (isContinue m (c .head)) || not (unheld (t .hold))) 12 _ (omega arith)
-    (late-unless (not (waiting w) || every (taken w l) (named c)) (unreturnable w) _ (late-unreturnable w)
+    (late-unless (not (waiting w) || every (returnable w l) (named c)) (unreturnable w) _ (late-unreturnable w)
     (late-unless (not (is m TI) || ltb (n .0) lastInstant) 15 _ (omega arith)
     (late-last (not (is m SL) || comesBy lastInstant e) 17 (omega arith))))))))
 
@@ -145,13 +146,13 @@ unfolding carryOn settle refusalOf
 carried-by day k c = go (formalRefusal day (k .counts) (k .begun) c)
   where
     go : (n : ℕ) → orRefuse k n (orRefuse k (stateRefusal (c .head .mark) k c) (carryOut day k c))
-        ≡ orRefuse k (before n (stateRefusal (c .head .mark) k c)) (carryOut day k c)
+        ≡ orRefuse k (firstRefusal n (stateRefusal (c .head .mark) k c)) (carryOut day k c)
     go zero = refl
     go (suc n) = refl
 
 -- The step on bytes that open so.
 abbrev pub stepOpened : ℕ → State → Read → List ℕ → Stepped
-stepOpened day k (Refused n) l = refuse k n (runner k)
+stepOpened day k (Refused n) l = answered k n (runner k)
 stepOpened day k (Accepted h) l = carryOn day k (callWith h l)
 
 pub read-opened : (day : ℕ) (k : State) (s : List ℕ) → let r = admitted day (k .counts) (k .begun) s in
@@ -177,17 +178,17 @@ pub kernel-cases : (day : ℕ) (k : State) (P : ℕ → Type 0)
     → (valid day k ≡ false → P 1) → (valid day k ≡ true → k .file ≢ fileOf k → P 16) → (kernelRefusal day k ≡ 0 → P 0)
     → P (kernelRefusal day k)
 unfolding kernelRefusal
-kernel-cases day k P failed misfiled taken =
+kernel-cases day k P failed misfiled returnable =
     byBool (valid day k)
     (λ v. rw v (byBool (filed k)
-    (λ f. rw f (taken (rw (v, f))))
+    (λ f. rw f (returnable (rw (v, f))))
     (λ f. rw f (misfiled v (λ e. contra (filed-from k e) f)))))
     (λ v. rw v (failed v))
 
 module _ (day : ℕ) (k : State) (P : Stepped → Type 0)
-    (failed : valid day k ≡ false → P (refuse k 1 Idle))
-    (misfiled : valid day k ≡ true → k .file ≢ fileOf k → P (refuse k 16 Idle))
-    (turnedAway : kernelRefusal day k ≡ 0 → (n : ℕ) → 2 ≤ n → Late n → P (refuse k n (runner k)))
+    (failed : valid day k ≡ false → P (answered k 1 Idle))
+    (misfiled : valid day k ≡ true → k .file ≢ fileOf k → P (answered k 16 Idle))
+    (turnedAway : kernelRefusal day k ≡ 0 → (n : ℕ) → 2 ≤ n → Late n → P (answered k n (runner k)))
     (done : kernelRefusal day k ≡ 0 → (c : Call) → refusalOf day k c ≡ 0 → P (carryOut day k c)) where
   on-cases : kernelRefusal day k ≡ 0 → (c : Call) → P (carryOn day k c)
   on-cases v c = rw (carried-by day k c) (go (refusalOf day k c) refl)

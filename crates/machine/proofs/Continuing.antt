@@ -14,7 +14,7 @@ use Rattle.layout.specs.declared.Head.{Head}
 use Rattle.layout.specs.declared.Mark.{Mark}
 use Rattle.layout.specs.declared.Mark.the-variants.{PR, CO, RE, TG}
 use Rattle.record.specs.Refusals.{scheduled, onInterrupt}
-use Rattle.lock.proofs.Bools.{byBool, byEq, both}
+use Rattle.facts.proofs.Bools.{byBool, byEq, both}
 use Rattle.task.specs.State.{withHold, withContinuation}
 use Rattle.schedule.specs.declared.Alarm.{Alarm}
 use Rattle.task.specs.declared.Hold.the-variants.{Suspended}
@@ -22,7 +22,7 @@ use Rattle.task.specs.declared.Task.{Task}
 use Rattle.task.specs.declared.Turn.{Turn}
 use Rattle.schedule.specs.Alarms.{setFor, armed, alarmOf}
 use Rattle.task.specs.Continuations.{continued}
-use Rattle.task.specs.Turns.{unmarked, preventTurn, triggerTurn, laterTurn}
+use Rattle.task.specs.Turns.{unmarked, preventTurn, triggerTurn, goOnLaterTurn}
 use Rattle.task.specs.Continuing.{Has, HasNone, SameHold, GoesOn}
 use Rattle.task.proofs.Continuing.{comes-due, later, on-interrupt, prevented}
 use Rattle.task.proofs.Firing.{turned}
@@ -34,8 +34,8 @@ use Rattle.machine.specs.Running.{runner}
 use Rattle.machine.specs.Work.{everyTurn}
 use Rattle.machine.specs.Sorts.{sortOf}
 use Rattle.machine.specs.Refusals.{declaredBy}
-use Rattle.machine.specs.Activation.{alarmBy, goOnTurn, resumeBy}
-use Rattle.machine.specs.Calls.{namedTurn, runnerTurn, changeOf, trigger, interruptBy, workBy}
+use Rattle.machine.specs.Activation.{alarmBy, continueBy, resumeBy}
+use Rattle.machine.specs.Calls.{namedTurn, runnerTurn, changeOf, triggerIn, interruptBy, workBy}
 use Rattle.machine.specs.Continuing.{SameButWait, Accepts, taskAfter, firstOf, CallsMake}
 use Rattle.machine.proofs.Passed.{passed}
 use Rattle.machine.proofs.Done.{runs}
@@ -50,7 +50,7 @@ record Asked (day : ℕ) (k : State) (h : Head) (p : ℕ) (r : Bool) (t u : Task
   waits : onInterrupt (h .kind) ≡ true → Has (armed (h .interrupt) (duration (h .first))) p r u × SameHold t u
 
 asked : (day : ℕ) (k : State) (h : Head) (p : ℕ) (r : Bool) (t u : Task)
-    → SameButWait (laterTurn (k .now) (alarmBy day (k .clock) (k .now) h) p r t .task) u → Asked day k h p r t u
+    → SameButWait (goOnLaterTurn (k .now) (alarmBy day (k .clock) (k .now) h) p r t .task) u → Asked day k h p r t u
 unfolding alarmOf
 asked day k h p r t u s =
     record {
@@ -71,10 +71,10 @@ asked day k h p r t u s =
     f : Instant
     f = firstOf day k h
 
-    turn : onInterrupt (h .kind) ≡ false → laterTurn n (alarmBy day (k .clock) n h) p r t ≡ laterTurn n (setFor f) p r t
+    turn : onInterrupt (h .kind) ≡ false → goOnLaterTurn n (alarmBy day (k .clock) n h) p r t ≡ goOnLaterTurn n (setFor f) p r t
     turn e = rw e
 
-    stays : (a : Alarm) → laterTurn n (alarmBy day (k .clock) n h) p r t ≡ unmarked (withContinuation a p r t) → Has a p r u × SameHold t u
+    stays : (a : Alarm) → goOnLaterTurn n (alarmBy day (k .clock) n h) p r t ≡ unmarked (withContinuation a p r t) → Has a p r u × SameHold t u
     stays a e =
         let x = withContinuation a p r t in
         let w : SameButWait x u = subst (λ (y : Turn). SameButWait (y .task) u) e s in
@@ -104,12 +104,12 @@ runner-turn day k s c i h q r =
     rw (r, one-at k i _ (in-table day k (h .tested) i (runs k i r .0))) at (step-leaves day k s c h TheRunner q refl i)
 
 go-on-turn : (day clock : ℕ) (n : Instant) (m : Mark) (h : Head) (t : Task) → m ≡ CO → scheduled (h .kind) ≡ true
-    → namedTurn day clock n m h t ≡ laterTurn n (alarmBy day clock n h) (h .priority) false t
-unfolding namedTurn goOnTurn
+    → namedTurn day clock n m h t ≡ goOnLaterTurn n (alarmBy day clock n h) (h .priority) false t
+unfolding namedTurn continueBy
 go-on-turn day clock n m h t e s = rw (e, sched (h .kind) s)
 
 rest-turn : (day clock : ℕ) (n : Instant) (m : Mark) (h : Head) (t : Task) → m ≡ RE → scheduled (h .kind) ≡ true
-    → runnerTurn day clock n m h t ≡ laterTurn n (alarmBy day clock n h) 0 true (withHold Suspended t)
+    → runnerTurn day clock n m h t ≡ goOnLaterTurn n (alarmBy day clock n h) 0 true (withHold Suspended t)
 unfolding runnerTurn resumeBy
 rest-turn day clock n m h t e s = rw (e, sched (h .kind) s)
 
@@ -119,7 +119,7 @@ prevent-turn day clock n m h t e = rw e
 
 trigger-turns : (day : ℕ) (m : Mark) (k : State) (j : ℕ) → m ≡ TG → enabledAt k j ≡ true
     → interruptBy day m k j ≡ everyTurn k (k .now) (triggerTurn day (k .clock) (k .now) j)
-unfolding interruptBy trigger
+unfolding interruptBy triggerIn
 trigger-turns day m k j e on = rw (e, on)
 
 -- Each declared task's turn.

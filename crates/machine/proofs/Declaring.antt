@@ -12,13 +12,13 @@ use Rattle.layout.specs.declared.Form.the-variants.{DeclaredPriority, Preset}
 use Rattle.layout.specs.declared.Mark.the-variants.{DT, DS, DB, IT, DC}
 use Rattle.layout.specs.declared.Call.{Call}
 use Rattle.record.specs.Refusals.{mostValue, uses, cleanNames, cleanStart, ranged, formedAs, timed}
-use Rattle.lock.specs.Locks.{emptyBolt, waiting, valueAt, boltAt, withValue, withBolt, level, free}
+use Rattle.lock.specs.Locks.{emptyBolt, waiting, valueAt, boltAt, withValue, withBolt, level, isFree}
 use Rattle.lock.specs.declared.Way.the-variants.{Take}
 use Rattle.lock.specs.declared.Wait.{Wait}
 use Rattle.lock.specs.declared.Wait.the-variants.{Nothing, Request, Reserve, Enter}
 use Rattle.lock.specs.declared.Locks.{Locks}
-use Rattle.lock.proofs.Bools.{byBool, byEq, contra, both, and-both}
-use Rattle.lock.proofs.Lists.{every-more}
+use Rattle.facts.proofs.Bools.{byBool, byEq, contra, both, and-both}
+use Rattle.lists.proofs.EveryLaws.{every-more}
 use Rattle.lock.proofs.Levels.{SameSize, size-refl, size-value, size-bolt, value-same, value-other, bolt-same, bolt-other}
 use Rattle.lock.proofs.Alike.{can-alike}
 use Rattle.task.specs.State.{noTask, wanted}
@@ -83,7 +83,7 @@ fresh-unwaiting p = refl
 
 -- A list of declared numbers that could not be granted still cannot, where their locks and writers are as they were.
 stuck-stays : (day : ℕ) (k : State) → StateOk day k → (n : ℕ) (ts : List Task) (r : Locks) (i : ℕ) → taskAt ts i ≡ taskAt (k .tasks) i
-    → ((w : Wait) (y : ℕ) → y < countOf (k .counts) w → free w r y ≡ free w (k .locks) y)
+    → ((w : Wait) (y : ℕ) → y < countOf (k .counts) w → isFree w r y ≡ isFree w (k .locks) y)
     → ((q y : ℕ) → unopposed n ts q y ≡ unopposed (k .counts .tasks) (k .tasks) q y) → i < k .counts .tasks → servable n ts r i ≡ false
 unfolding available
 stuck-stays day k h n ts r i e f g l =
@@ -150,7 +150,7 @@ module _ (day : ℕ) (k : State) (h : StateOk day k) (c : Call) where
 
   -- The tasks stay, and so do the locks that were declared before.
   added : (m : Counts) (r : Locks) (es : List Bool) → m .tasks ≡ k .counts .tasks → Fits m → More (k .counts) m → SameSize (k .locks) r → length es ≡ length (k .enabled)
-      → Bounded m r → ((w : Wait) (y : ℕ) → y < countOf (k .counts) w → free w r y ≡ free w (k .locks) y) → StateOk day (withCounts m (withState (k .tasks) r es k))
+      → Bounded m r → ((w : Wait) (y : ℕ) → y < countOf (k .counts) w → isFree w r y ≡ isFree w (k .locks) y) → StateOk day (withCounts m (withState (k .tasks) r es k))
   added m r es e o q s g b f =
       record {
         tables = record { tasks = h .tables .tasks; places = h .tables .places; semaphores = s .semaphores ∙ h .tables .semaphores; bolts = s .bolts ∙ h .tables .bolts; enabled = g ∙ h .tables .enabled };
@@ -178,7 +178,7 @@ module _ (day : ℕ) (k : State) (h : StateOk day k) (c : Call) where
       (λ s l. byEq s n (λ z. rw (z, value-same (k .locks) n v (omega (arith, h .tables .semaphores))) preset) (λ z. rw (value-other (k .locks) n v s z) (values-stay s (omega arith)))) readers-stay)
       unused
     where
-      unused : (w : Wait) (y : ℕ) → y < countOf (k .counts) w → free w (withValue (k .locks) (k .counts .semaphores) (c .head .first)) y ≡ free w (k .locks) y
+      unused : (w : Wait) (y : ℕ) → y < countOf (k .counts) w → isFree w (withValue (k .locks) (k .counts .semaphores) (c .head .first)) y ≡ isFree w (k .locks) y
       unused w y l =
           can-alike _ _ _ _ (record { values = λ x q. value-other (k .locks) _ _ x (λ z. omega arith); bolts = λ x q. refl }) Take w y (rw (count-below (k .counts) w) at l)
 
@@ -194,7 +194,7 @@ module _ (day : ℕ) (k : State) (h : StateOk day k) (c : Call) where
       (λ b l. byEq b n (λ z. rw (z, bolt-same (k .locks) n emptyBolt (omega (arith, h .tables .bolts))) (omega arith)) (λ z. rw (bolt-other (k .locks) n emptyBolt b z) (readers-stay b (omega arith)))))
       unused
     where
-      unused : (w : Wait) (y : ℕ) → y < countOf (k .counts) w → free w (withBolt (k .locks) (k .counts .bolts) emptyBolt) y ≡ free w (k .locks) y
+      unused : (w : Wait) (y : ℕ) → y < countOf (k .counts) w → isFree w (withBolt (k .locks) (k .counts .bolts) emptyBolt) y ≡ isFree w (k .locks) y
       unused w y l =
           can-alike _ _ _ _ (record { values = λ x q. refl; bolts = λ x q. bolt-other (k .locks) _ emptyBolt x (λ z. omega arith) }) Take w y (rw (count-below (k .counts) w) at l)
 

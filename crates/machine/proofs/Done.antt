@@ -8,7 +8,6 @@ use lib.Dec.{ltb}
 use lib.ListN.{length, set, length-set}
 use borrow.Author.Tests.{ltb-true, not-true}
 use Rattle.calendar.specs.Limits.{lastInstant}
-use Rattle.calendar.specs.Times.{duration, plus}
 use Rattle.calendar.specs.Moments.{comesBy}
 use Rattle.calendar.specs.declared.Instant.{Instant}
 use Rattle.layout.specs.Marks.{is, form}
@@ -19,10 +18,10 @@ use Rattle.layout.specs.declared.Form.{Form}
 use Rattle.layout.specs.declared.Form.the-variants.{Activation, Continuation, Resumption}
 use Rattle.layout.proofs.MarksLaws.{is-mark}
 use Rattle.layout.specs.declared.Call.{Call}
-use Rattle.lock.specs.Locks.{waiting, every, taken, grantable, takeAll, giveAll}
+use Rattle.lock.specs.Locks.{waiting, returnable, allFree, takeAll, giveAll}
 use Rattle.lock.specs.declared.Wait.{Wait}
 use Rattle.lock.specs.declared.Wait.the-variants.{Nothing}
-use Rattle.lock.proofs.Bools.{byBool, contra, both, or-then}
+use Rattle.facts.proofs.Bools.{byBool, contra, both, or-then}
 use Rattle.task.specs.State.{unheld, runnable, waitFor}
 use Rattle.task.specs.Turns.{unmarked}
 use Rattle.task.specs.declared.Task.{Task}
@@ -39,7 +38,7 @@ use Rattle.machine.specs.Sorts.{sortOf, declaring, declares, askedKind, 
 use Rattle.machine.specs.Work.{Work, byTurn, changed, everyTurn}
 use Rattle.machine.specs.Refusals.{startDeclared, declaredBy, isContinue}
 use Rattle.machine.specs.NextEvent.{nextEvent}
-use Rattle.machine.specs.Calls.{namedTurn, runnerTurn, asks, changeOf, trigger, interruptBy, arrive, arrival, workBy, workOf}
+use Rattle.machine.specs.Calls.{namedTurn, runnerTurn, askFor, changeOf, triggerIn, interruptBy, arrive, arrival, workBy, workOf}
 use Rattle.machine.specs.Invariants.{IsDay}
 use Rattle.machine.proofs.Below.{mostUrgent-at}
 use Rattle.machine.proofs.Facts.{Listed, TaskOk, StateOk}
@@ -49,6 +48,7 @@ use Rattle.machine.proofs.NextEvent.{instant-by}
 use Rattle.machine.proofs.Sorts.{listing, other-mark, asked-waits, given-waits, continue-mark, tick-mark, list-mark, list-shape}
 use Rattle.machine.proofs.Works.{oneTurn, onlyLocks, locks-alone, enabled-alone}
 use Rattle.machine.proofs.Granting.{could-free}
+use Rattle.lists.specs.Lists.{every}
 
 -- What a mark asks for, whether it waits for that, what it gives back, whether it prevents.
 pub record Role : Type 0 where
@@ -66,8 +66,8 @@ role m = roleOf (sortOf m) (is m PR)
 abbrev pub asking : Wait → Bool → Role
 asking w s = record { asks = w; stays = s; gives = Nothing; prevents = false }
 
-abbrev pub plain : Bool → Role
-plain p = record { asks = Nothing; stays = true; gives = Nothing; prevents = p }
+abbrev pub plainRole : Bool → Role
+plainRole p = record { asks = Nothing; stays = true; gives = Nothing; prevents = p }
 
 abbrev pub giving : Wait → Role
 giving w = record { asks = Nothing; stays = true; gives = w; prevents = false }
@@ -89,18 +89,18 @@ module _ (day : ℕ) (k : State) (c : Call) where
   pub data Did : Role → Work → Type 0 where
     -- one task has its turn
     turned : (p : Bool) (i : ℕ) (u : Turn) → i < k .counts .tasks → (p ≡ true → c .head .number ≡ i)
-        → Good day (k .counts) p (taskAt (k .tasks) i) u → Did (plain p) (oneTurn k i u)
+        → Good day (k .counts) p (taskAt (k .tasks) i) u → Did (plainRole p) (oneTurn k i u)
     -- every task has its turn
     everyone : (n : Instant) (f : Task → Turn) → n .0 ≤ lastInstant
         → ((i : ℕ) → i < k .counts .tasks → Good day (k .counts) false (taskAt (k .tasks) i) (f (taskAt (k .tasks) i)))
-        → Did (plain false) (everyTurn k n f)
+        → Did (plainRole false) (everyTurn k n f)
     -- no task has a turn and no lock changes
-    quiet : (es : List Bool) → length es ≡ length (k .enabled) → Did (plain false) (onlyLocks k (k .locks) es 0)
+    quiet : (es : List Bool) → length es ≡ length (k .enabled) → Did (plainRole false) (onlyLocks k (k .locks) es 0)
     -- a list is given back
-    gave : (w : Wait) → Lists w → every (taken w (k .locks)) (named c) ≡ true
+    gave : (w : Wait) → Lists w → every (returnable w (k .locks)) (named c) ≡ true
         → Did (giving w) (onlyLocks k (giveAll w (k .locks) (named c)) (k .enabled) 0)
     -- the runner's list is granted
-    got : (w : Wait) (s : Bool) (i : ℕ) → waiting w ≡ true → runner k ≡ Runs i → Lists w → grantable w (k .locks) (named c) ≡ true
+    got : (w : Wait) (s : Bool) (i : ℕ) → waiting w ≡ true → runner k ≡ Runs i → Lists w → allFree w (k .locks) (named c) ≡ true
         → Did (asking w s) (onlyLocks k (takeAll w (k .locks) (named c)) (k .enabled) (2 ^ i))
     -- the runner waits for its list
     waits : (w : Wait) (i : ℕ) → waiting w ≡ true → runner k ≡ Runs i → Lists w
@@ -124,7 +124,7 @@ module _ (day : ℕ) (isDay : IsDay day) (k : State) (h : StateOk day k) (c : Ca
   abbrev m : Mark
   m = c .head .mark
 
-  does-turn : (i : ℕ) (u : Turn) → i < k .counts .tasks → Good day (k .counts) false (taskAt (k .tasks) i) u → Does (plain false) (oneTurn k i u)
+  does-turn : (i : ℕ) (u : Turn) → i < k .counts .tasks → Good day (k .counts) false (taskAt (k .tasks) i) u → Does (plainRole false) (oneTurn k i u)
   does-turn i u l g = turned false i u l (λ e. contra e refl) g
 
   -- What a form doesn't use of a start is zero.
@@ -179,7 +179,7 @@ module _ (day : ℕ) (isDay : IsDay day) (k : State) (h : StateOk day k) (c : Ca
   does-runner p q = go (runner k) refl (rw q at (unrefused m c (runner k) _ (k .locks) (k .now) _ (p .state) .runs))
     where
       go : (r : Running) → runner k ≡ r → someone r ≡ true
-          → Does (plain false) (changed k (runnerAt r) (byTurn (k .locks) (runnerTurn day (k .clock) (k .now) m (c .head) (taskAt (k .tasks) (runnerAt r)))))
+          → Does (plainRole false) (changed k (runnerAt r) (byTurn (k .locks) (runnerTurn day (k .clock) (k .now) m (c .head) (taskAt (k .tasks) (runnerAt r)))))
       go Idle e z = contra z refl
       go (Runs i) e z =
           let u = runs k i e in
@@ -193,13 +193,13 @@ module _ (day : ℕ) (isDay : IsDay day) (k : State) (h : StateOk day k) (c : Ca
       record { size = s .0; once = s .1; below = d }
 
   does-ask : (w : Wait) (s : Bool) → waiting w ≡ true → Passed day m k c → sortOf m ≡ ListAsked w s → Does (roleOf (ListAsked w s) false) (workBy day (ListAsked w s) k c)
-  unfolding workBy changeOf asks declaredBy
+  unfolding workBy changeOf askFor declaredBy
   does-ask w s z p q = go (runner k) refl (rw q at (unrefused m c (runner k) _ (k .locks) (k .now) _ (p .state) .runs))
     where
       l : Lists day k c w
       l = lists w p (rw q) (unfold declaredBy in rw q at (p .formal .known))
 
-      go : (r : Running) → runner k ≡ r → someone r ≡ true → Does (asking w s) (changed k (runnerAt r) (asks (k .counts .tasks) (k .tasks) w s c (taskAt (k .tasks) (runnerAt r)) (k .locks)))
+      go : (r : Running) → runner k ≡ r → someone r ≡ true → Does (asking w s) (changed k (runnerAt r) (askFor (k .counts .tasks) (k .tasks) w s c (taskAt (k .tasks) (runnerAt r)) (k .locks)))
       go Idle e y = contra y refl
       go (Runs i) e y =
           let t = taskAt (k .tasks) i in
@@ -216,21 +216,21 @@ module _ (day : ℕ) (isDay : IsDay day) (k : State) (h : StateOk day k) (c : Ca
 
   -- ---- interrupts and time
 
-  does-trigger : (i : ℕ) → Does (plain false) (trigger day k i)
-  unfolding trigger
+  does-trigger : (i : ℕ) → Does (plainRole false) (triggerIn day k i)
+  unfolding triggerIn
   does-trigger i =
       byBool (enabledAt k i)
       (λ e. rw e (everyone (k .now) _ (h .now-ok) (λ j l. good-trigger day (k .counts) isDay (k .clock) (k .now) (h .now-ok) i (taskAt (k .tasks) j) (h .tasks-ok j l))))
       (λ e. rw (e, enabled-alone k (k .enabled)) (quiet (k .enabled) refl))
 
-  does-interrupt : Does (plain false) (workBy day AnInterrupt k c)
+  does-interrupt : Does (plainRole false) (workBy day AnInterrupt k c)
   unfolding workBy interruptBy
   does-interrupt =
       let i = c .head .number in
       byBool (is m TG) (λ e. rw e (does-trigger i))
       (λ e. rw (e, enabled-alone k (set (k .enabled) i (is m EI))) (quiet _ (length-set (k .enabled) i (is m EI))))
 
-  does-arrive : (x : Instant) → x .0 ≤ lastInstant → Does (plain false) (arrive k x)
+  does-arrive : (x : Instant) → x .0 ≤ lastInstant → Does (plainRole false) (arrive k x)
   unfolding arrive
   does-arrive x l = everyone x _ l (λ j q. good-tick day (k .counts) x (taskAt (k .tasks) j) (omega arith) (h .tasks-ok j q))
 

@@ -8,13 +8,13 @@ use lib.Dec.{ltb, leb}
 use lib.ListN.{length}
 use borrow.Author.Tests.{leb-true, le-leb, ltb-true, lt-ltb, not-true}
 use Rattle.calendar.specs.Limits.{lastInstant}
-use Rattle.lists.specs.Lists.{distinct}
-use Rattle.record.specs.Refusals.{mostValue, mostNumbers}
-use Rattle.lock.specs.Locks.{waiting, every, valueAt, boltAt, level}
+use Rattle.lists.specs.Lists.{distinct, every}
+use Rattle.record.specs.Refusals.{mostValue}
+use Rattle.lock.specs.Locks.{waiting, valueAt, boltAt, level}
 use Rattle.lock.specs.declared.Wait.{Wait}
 use Rattle.lock.specs.declared.Wait.the-variants.{Nothing, Request, Reserve, Enter}
 use Rattle.lock.specs.declared.Locks.{Locks}
-use Rattle.lock.proofs.Bools.{both, and-both, not-of-false, or-then, then-or, bit-le}
+use Rattle.facts.proofs.Bools.{both, and-both, not-of-false, or-then, then-or}
 use Rattle.lock.proofs.Levels.{places, Proper, SameSize}
 use Rattle.task.specs.State.{restOk, wanted}
 use Rattle.task.specs.declared.Task.{Task}
@@ -30,6 +30,8 @@ use Rattle.machine.proofs.Below.{all-at, all-from}
 use Rattle.machine.proofs.Places.{Apart, apart-of, places-test}
 use Rattle.machine.proofs.Filing.{taken-valid, taken-filed, taken}
 use Rattle.machine.proofs.Passed.{Fits, counts-fit, parts}
+use Rattle.lock.proofs.Bits.{bit-le}
+use Rattle.layout.specs.Fields.{mostNumbers}
 
 -- A wait's list: one to four numbers, none twice, all declared.
 pub record Listed (n : Counts) (w : Wait) (len : ℕ) (l : List ℕ) : Type 0 where

@@ -2,7 +2,7 @@
 use mathlib.Core.Path.{_≡_, refl, sym}
 use mathlib.Core.Logic.{_≢_}
 use Prim.Native.Nat.{ℕ}
-use Rattle.lock.proofs.Bools.{contra}
+use Rattle.facts.proofs.Bools.{contra}
 use Rattle.layout.specs.declared.Mark.{Mark}
 use Rattle.layout.specs.declared.Call.{Call}
 use Rattle.machine.specs.declared.State.{State}
@@ -13,7 +13,7 @@ use Rattle.machine.specs.NextEvent.{fileOf}
 use Rattle.machine.specs.Test.{kernelRefusal}
 use Rattle.machine.specs.Work.{Work}
 use Rattle.machine.specs.Calls.{addSemaphore, addBolt, addInterrupt, declaration}
-use Rattle.machine.specs.Step.{refuse, finish, declared, carryOut}
+use Rattle.machine.specs.Step.{answered, finish, declared, carryOut}
 use Rattle.machine.specs.Promises.{StepFiles, CarryFiles, FiledIsFirst, AnswersFiled}
 use Rattle.machine.proofs.Filing.{taken-valid, taken-filed, taken-runner}
 use Rattle.machine.proofs.Urgency.{runner-first}
@@ -48,20 +48,20 @@ out-files day k c =
 abbrev Settled : Stepped → Type 0
 Settled z = z .answer .number ≢ 1 → z .answer .number ≢ 16 → Files (z .state)
 
-refuse-files : (k : State) (n : ℕ) (r : Running) → Files k → Settled (refuse k n r)
-unfolding refuse
+refuse-files : (k : State) (n : ℕ) (r : Running) → Files k → Settled (answered k n r)
+unfolding answered
 refuse-files k n r e a b = e
 
 module _ (day : ℕ) (k : State) where
-  refuse-1 : (r : Running) → Settled (refuse k 1 r)
-  unfolding refuse
+  refuse-1 : (r : Running) → Settled (answered k 1 r)
+  unfolding answered
   refuse-1 r a b = absurd (a refl)
 
-  refuse-16 : (r : Running) → Settled (refuse k 16 r)
-  unfolding refuse
+  refuse-16 : (r : Running) → Settled (answered k 16 r)
+  unfolding answered
   refuse-16 r a b = absurd (b refl)
 
-  refuse-late : kernelRefusal day k ≡ 0 → (n : ℕ) → Settled (refuse k n (runner k))
+  refuse-late : kernelRefusal day k ≡ 0 → (n : ℕ) → Settled (answered k n (runner k))
   refuse-late t n = refuse-files k n (runner k) (taken-filed day k t)
 
 pub step-files : StepFiles
@@ -83,8 +83,8 @@ filed-first day k t = rw (taken-runner day k t) (runner-first k (tested-bytes da
 abbrev Same : Stepped → Type 0
 Same z = z .answer .running ≡ z .state .file .running
 
-refuse-same : (k : State) (n : ℕ) → k .file .running ≡ runner k → Same (refuse k n (runner k))
-unfolding refuse
+refuse-same : (k : State) (n : ℕ) → k .file .running ≡ runner k → Same (answered k n (runner k))
+unfolding answered
 refuse-same k n e = sym e
 
 out-same : (day : ℕ) (k : State) (c : Call) → Same (carryOut day k c)

@@ -6,7 +6,7 @@ use Prim.Native.Nat.{ℕ}
 use native.Mathlib.Omega.{arith}
 use borrow.Author.Tests.{eqb-true, eq-eqb}
 use Rattle.calendar.proofs.Moments.{same-moment, moment-same}
-use Rattle.lock.proofs.Bools.{byBool, contra, both, and-both}
+use Rattle.facts.proofs.Bools.{byBool, contra, both, and-both}
 use Rattle.record.specs.Refusals.{unless}
 use Rattle.machine.specs.declared.OnFile.{OnFile}
 use Rattle.machine.specs.declared.State.{State}

@@ -5,27 +5,28 @@ use mathlib.Core.List.{List}
 use Prim.Native.Nat.{ℕ, _+_, _<_}
 use native.Mathlib.Numerals.{add-one}
 use lib.Dec.{ltb}
-use Rattle.lock.specs.Locks.{waiting, sameKind, free, every, grantable}
+use Rattle.lock.specs.Locks.{waiting, sameKind, isFree, allFree}
 use Rattle.lock.specs.declared.Wait.{Wait}
 use Rattle.lock.specs.declared.Wait.the-variants.{Reserve}
 use Rattle.lock.specs.declared.Locks.{Locks}
-use Rattle.lock.proofs.Bools.{byBool, contra, both}
+use Rattle.facts.proofs.Bools.{byBool, contra, both}
 use Rattle.lock.proofs.Levels.{same-kind}
-use Rattle.lock.proofs.Lists.{every-below, every-alike, every-then}
+use Rattle.lists.proofs.EveryLaws.{every-below, every-alike, every-then}
 use Rattle.task.specs.State.{wanted}
 use Rattle.task.specs.declared.Task.{Task}
 use Rattle.machine.specs.Sums.{allBelow}
 use Rattle.machine.specs.State.{taskAt}
 use Rattle.machine.specs.Granting.{goesBefore, unopposed, available, couldBeGranted, servable}
 use Rattle.machine.proofs.Below.{all-same}
+use Rattle.lists.specs.Lists.{every}
 
 -- ---- a list
 
 module _ (n : ℕ) (ts : List Task) (r : Locks) (q : ℕ) (w : Wait) (l : List ℕ) where
   -- Each number of it is free.
-  pub could-free : couldBeGranted n ts r q w l ≡ true → grantable w r l ≡ true
+  pub could-free : couldBeGranted n ts r q w l ≡ true → allFree w r l ≡ true
   unfolding couldBeGranted available
-  could-free e = every-then (available n ts r q w) (free w r) l (λ x h. both (free w r x) _ h .0) e
+  could-free e = every-then (available n ts r q w) (isFree w r) l (λ x h. both (isFree w r x) _ h .0) e
 
   -- Only its own numbers count.
   pub could-alike : (n′ : ℕ) (ts′ : List Task) (r′ : Locks) (m : ℕ) → every (λ x. ltb x m) l ≡ true

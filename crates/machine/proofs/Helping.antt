@@ -5,9 +5,9 @@ use Prim.Native.Nat.{ℕ}
 use Rattle.lists.specs.Lists.{names}
 use Rattle.lock.specs.declared.Wait.{Wait}
 use Rattle.lock.specs.declared.Wait.the-variants.{Reserve, Enter}
-use Rattle.lock.specs.Locks.{waiting, sameKind, free}
-use Rattle.lock.proofs.Bools.{byBool, byEq, contra, both, and-both, not-of-false, or-then, then-or}
-use Rattle.lock.proofs.Lists.{every-then}
+use Rattle.lock.specs.Locks.{waiting, sameKind, isFree}
+use Rattle.facts.proofs.Bools.{byBool, byEq, contra, both, and-both, not-of-false, or-then, then-or}
+use Rattle.lists.proofs.EveryLaws.{every-then}
 use Rattle.lock.proofs.Levels.{same-kind}
 use Rattle.lock.proofs.Fewer.{taking-frees, reserved-shut}
 use Rattle.task.specs.State.{wanted}
@@ -20,7 +20,7 @@ use Rattle.machine.proofs.Serving.{grant-at, grant-other}
 
 module _ (n : ℕ) (p : Served) (j : ℕ) (placed : Placed p j) (e : canBeServed n p j ≡ true) where
   -- What can be entered after the grant, the task granted didn't wait to reserve.
-  not-granted : (q x : ℕ) → free Enter (grantTo j p .locks) x ≡ true → goesBefore q x (taskAt (p .tasks) j) ≡ false
+  not-granted : (q x : ℕ) → isFree Enter (grantTo j p .locks) x ≡ true → goesBefore q x (taskAt (p .tasks) j) ≡ false
   unfolding grantTo
   not-granted q x f =
       let t = taskAt (p .tasks) j in
@@ -31,19 +31,19 @@ module _ (n : ℕ) (p : Served) (j : ℕ) (placed : Placed p j) (e : canBeServed
       contra (rw r at f) (reserved-shut (wanted t) (p .locks) x (placed r) (a .1)))
       (λ g. g)
 
-  unopposed-before : (q x : ℕ) → free Enter (grantTo j p .locks) x ≡ true → unopposed n (grantTo j p .tasks) q x ≡ true → unopposed n (p .tasks) q x ≡ true
+  unopposed-before : (q x : ℕ) → isFree Enter (grantTo j p .locks) x ≡ true → unopposed n (grantTo j p .tasks) q x ≡ true → unopposed n (p .tasks) q x ≡ true
   unfolding unopposed
   unopposed-before q x f u =
       all-from n _ (λ i l. byEq i j (λ z. rw z (not-of-false _ (not-granted q x f))) (λ z. rw (grant-other p j i z) at (all-at n _ u i l)))
 
-  free-before : (w : Wait) (x : ℕ) → free w (grantTo j p .locks) x ≡ true → free w (p .locks) x ≡ true
+  free-before : (w : Wait) (x : ℕ) → isFree w (grantTo j p .locks) x ≡ true → isFree w (p .locks) x ≡ true
   unfolding grantTo
   free-before w x = taking-frees w (taskAt (p .tasks) j .wait) (wanted (taskAt (p .tasks) j)) (p .locks) x
 
   available-before : (q : ℕ) (w : Wait) (x : ℕ) → available n (grantTo j p .tasks) (grantTo j p .locks) q w x ≡ true → available n (p .tasks) (p .locks) q w x ≡ true
   unfolding available
   available-before q w x a =
-      let b = both (free w (grantTo j p .locks) x) _ a in
+      let b = both (isFree w (grantTo j p .locks) x) _ a in
       and-both (free-before w x (b .0))
       (then-or (sameKind w Enter) _
       (λ s. unopposed-before q x (rw (same-kind w Enter s) at (b .0)) (or-then (sameKind w Enter) _ (b .1) s)))

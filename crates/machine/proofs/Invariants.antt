@@ -1,11 +1,10 @@
 -- Every step keeps what the kernel test asks.
 use mathlib.Core.Path.{_≡_, refl, sym}
-use mathlib.Core.Bool.{true}
 use mathlib.Core.List.{List}
 use Prim.Native.Nat.{ℕ, zero, suc, _≤_}
 use native.Mathlib.Omega.{arith}
-use Rattle.calendar.specs.Limits.{day}
-use Rattle.lock.proofs.Bools.{byBool, contra}
+use Rattle.calendar.specs.Limits.{dayLength}
+use Rattle.facts.proofs.Bools.{byBool, contra}
 use Rattle.record.specs.Reading.{callWith, opened}
 use Rattle.layout.specs.Fields.{Octets}
 use Rattle.record.specs.declared.Read.{Read}
@@ -15,7 +14,7 @@ use Rattle.machine.specs.declared.State.{State}
 use Rattle.machine.specs.Test.{filed, kernelRefusal}
 use Rattle.machine.specs.NextEvent.{fileOf}
 use Rattle.machine.specs.Calls.{declaration, workOf}
-use Rattle.machine.specs.Step.{refuse, declared, orRefuse, carryOut, carryOn, carry, step}
+use Rattle.machine.specs.Step.{answered, declared, orRefuse, carryOut, carryOn, carry, step}
 use Rattle.machine.specs.Invariants.{IsDay, StepTested, StepPasses, CarryPasses}
 use Rattle.machine.proofs.Filing.{filed-from, filed-to, taken, taken-valid}
 use Rattle.machine.proofs.Facts.{StateOk, passes-of-ok, ok-of-passes, refiled}
@@ -29,7 +28,7 @@ use Rattle.machine.proofs.Keeping.{did-ok, finish-ok}
 use Rattle.machine.proofs.Declaring.{task-added, semaphore-added, bolt-added, interrupt-added, clock-set}
 
 -- The day of the code is one.
-pub is-day : IsDay day
+pub is-day : IsDay dayLength
 is-day = record { some = omega arith; room = omega arith }
 
 -- A kernel that isn't turned away carries a call on.
@@ -55,13 +54,13 @@ module _ (day : ℕ) (isDay : IsDay day) (k : State) (h : StateOk day k) where
       where
         go : (n : ℕ) → refusalOf day k c ≡ n → StateOk day (orRefuse k n (carryOut day k c) .state)
         go zero e = carried-ok (passed day k c e)
-        go (suc n) e = unfold refuse in h
+        go (suc n) e = unfold answered in h
 
   pub step-ok : (s : List ℕ) → Octets s → StateOk day (step day k s .state)
   step-ok s o = rw (step-on day k s (passes-of-ok day k h .tested)) (go (opened s .answer) refl)
     where
       go : (r : Read) → opened s .answer ≡ r → StateOk day (stepOpened day k r (opened s .list) .state)
-      go (Refused n) e = unfold refuse in h
+      go (Refused n) e = unfold answered in h
       go (Accepted d) e = let b = opened-priority s d o e in carry-ok (callWith d (opened s .list)) (omega arith)
 
 pub step-passes : StepPasses

@@ -13,7 +13,7 @@ use Rattle.record.specs.Refusals.{named}
 use Rattle.lock.specs.declared.Way.the-variants.{Take, Give}
 use Rattle.lock.specs.declared.Wait.{Wait}
 use Rattle.lock.specs.declared.Locks.{Locks}
-use Rattle.lock.proofs.Bools.{byEq}
+use Rattle.facts.proofs.Bools.{byEq}
 use Rattle.lock.proofs.Levels.{SameSize, size-refl}
 use Rattle.lock.proofs.Taking.{move-size, move-most}
 use Rattle.task.specs.State.{noTask, waitFor}

@@ -44,3 +44,4 @@ pub mod Sorted
 pub mod Helping
 pub mod OnePass
 pub mod Taking
+pub mod Computing

@@ -12,15 +12,15 @@ use Rattle.calendar.specs.declared.Moment.{Moment}
 use Rattle.layout.specs.declared.Mark.{Mark}
 use Rattle.layout.specs.declared.Mark.the-variants.{AC, TE, SU, CO}
 use Rattle.layout.specs.declared.Call.{Call}
-use Rattle.record.specs.Refusals.{mostValue, named, before}
-use Rattle.lock.specs.Locks.{waiting, taken, every, canMoveAll, valueAt, boltAt}
+use Rattle.record.specs.Refusals.{mostValue, named, firstRefusal}
+use Rattle.lock.specs.Locks.{waiting, returnable, canMoveAll, valueAt, boltAt}
 use Rattle.lock.specs.declared.Way.{Way}
 use Rattle.lock.specs.declared.Way.the-variants.{Take, Give}
 use Rattle.lock.specs.declared.Wait.{Wait}
 use Rattle.lock.specs.declared.Wait.the-variants.{Nothing, Request, Reserve, Enter}
 use Rattle.lock.specs.declared.Locks.{Locks}
-use Rattle.lock.proofs.Bools.{both}
-use Rattle.lock.proofs.Lists.{every-below}
+use Rattle.facts.proofs.Bools.{both}
+use Rattle.lists.proofs.EveryLaws.{every-below}
 use Rattle.lock.proofs.Alike.{below, Seen, can-alike}
 use Rattle.task.specs.State.{wanted}
 use Rattle.task.specs.declared.Task.{Task}
@@ -35,7 +35,7 @@ use Rattle.machine.specs.NextEvent.{nextAmong, nextEvent}
 use Rattle.machine.specs.Granting.{available, couldBeGranted, servable}
 use Rattle.machine.specs.Sums.{allBelow}
 use Rattle.machine.specs.Test.{taskOk, countsOk, nobodyServable, valid, placesOk, filed, kernelRefusal}
-use Rattle.machine.specs.Sorts.{sortOf, givenKind, naming, runnerAt, placeOf}
+use Rattle.machine.specs.Sorts.{sortOf, givenKind, naming, runnerAt, taskOf}
 use Rattle.machine.specs.Refusals.{listDeclared, declaredBy, declaredIn, formalRefusal, refusalBy, stateRefusal}
 use Rattle.machine.proofs.Urgency.{scan-same}
 use Rattle.machine.proofs.NextEvent.{pending-same}
@@ -43,6 +43,7 @@ use Rattle.machine.proofs.Below.{all-at, all-same}
 use Rattle.machine.proofs.Granting.{could-alike, unopposed-same}
 use Rattle.machine.proofs.Sorts.{other-mark}
 use Rattle.machine.proofs.Passed.{refusalOf, formal, Listed, listed-task}
+use Rattle.lists.specs.Lists.{every}
 
 pub count-below : (n : Counts) (w : Wait) → countOf n w ≡ below (n .semaphores) (n .bolts) w
 count-below n Nothing = refl
@@ -54,7 +55,7 @@ pub and-then : (a b b′ : Bool) → (a ≡ true → b ≡ b′) → (a && b) �
 and-then true b b′ h = h refl
 and-then false b b′ h = refl
 
-before-then : (n m m′ : ℕ) → (n ≡ 0 → m ≡ m′) → before n m ≡ before n m′
+before-then : (n m m′ : ℕ) → (n ≡ 0 → m ≡ m′) → firstRefusal n m ≡ firstRefusal n m′
 before-then zero m m′ h = h refl
 before-then (suc n) m m′ h = refl
 
@@ -165,12 +166,12 @@ module _ (k : State) (ts : List Task) (ps : List ℕ) (r : Locks) (is : List Boo
   task-same : (i : ℕ) → ltb i (k .counts .tasks) ≡ true → taskAt (k .tasks) i ≡ taskAt ts i
   task-same i e = same i (ltb-true i (k .counts .tasks) e)
 
-  gives-same : (w : Wait) (c : Call) → listDeclared (k .counts) w c ≡ true → every (taken w (k .locks)) (named c) ≡ every (taken w r) (named c)
+  gives-same : (w : Wait) (c : Call) → listDeclared (k .counts) w c ≡ true → every (returnable w (k .locks)) (named c) ≡ every (returnable w r) (named c)
   gives-same w c e = moves-same (k .counts) (k .tasks) ts same (k .locks) r seen Give w (named c) e
 
   -- What is given back, where the call is of a sort.
   given-same : (s : Sort) (c : Call) → declaredBy s (k .counts) c ≡ true
-      → (not (waiting (givenKind s)) || every (taken (givenKind s) (k .locks)) (named c)) ≡ (not (waiting (givenKind s)) || every (taken (givenKind s) r) (named c))
+      → (not (waiting (givenKind s)) || every (returnable (givenKind s) (k .locks)) (named c)) ≡ (not (waiting (givenKind s)) || every (returnable (givenKind s) r) (named c))
   unfolding declaredBy
   given-same Declaration c e = refl
   given-same OneTask c e = refl
@@ -182,14 +183,14 @@ module _ (k : State) (ts : List Task) (ps : List ℕ) (r : Locks) (is : List Boo
 
   -- The task is looked at where the call names one.
   about-same : (m : Mark) (c : Call) (x : Running) (l : Locks) (n : Instant) (y : Moment) → declaredIn m (k .counts) c ≡ true
-      → refusalBy m c x (taskAt (k .tasks) (placeOf (sortOf m) (c .head) x)) l n y ≡ refusalBy m c x (taskAt ts (placeOf (sortOf m) (c .head) x)) l n y
+      → refusalBy m c x (taskAt (k .tasks) (taskOf (sortOf m) (c .head) x)) l n y ≡ refusalBy m c x (taskAt ts (taskOf (sortOf m) (c .head) x)) l n y
   about-same m c x l n y = go (sortOf m) refl
     where
       unseen : naming (sortOf m) ≡ false → (i : ℕ) → refusalBy m c x (taskAt (k .tasks) i) l n y ≡ refusalBy m c x (taskAt ts i) l n y
       unseen e i = unlooked m c x l n y e (taskAt (k .tasks) i) (taskAt ts i)
 
       go : (s : Sort) → sortOf m ≡ s → declaredBy s (k .counts) c ≡ true
-          → refusalBy m c x (taskAt (k .tasks) (placeOf s (c .head) x)) l n y ≡ refusalBy m c x (taskAt ts (placeOf s (c .head) x)) l n y
+          → refusalBy m c x (taskAt (k .tasks) (taskOf s (c .head) x)) l n y ≡ refusalBy m c x (taskAt ts (taskOf s (c .head) x)) l n y
       go Declaration q e = unseen (rw q) (runnerAt x)
       go OneTask q e =
           ap (λ (t : Task). refusalBy m c x t l n y)

@@ -8,12 +8,12 @@ use native.Mathlib.Omega.{arith}
 use lib.Dec.{ltb}
 use borrow.Author.Tests.{leb-true, lt-ltb, ltb-true, ltb-false}
 use Rattle.calendar.specs.Times.{instant, duration, plus}
-use Rattle.calendar.specs.Moments.{hasAt, before, comesBy, instantOr, firstAfter}
+use Rattle.calendar.specs.Moments.{hasAt, earlierThan, comesBy, instantOr, firstAfter}
 use Rattle.calendar.specs.declared.Instant.{Instant}
 use Rattle.calendar.specs.declared.Moment.{Moment}
 use Rattle.calendar.specs.declared.Moment.the-variants.{Never, At}
 use Rattle.calendar.proofs.Moments.{earlier, first-none, first-is, first-append, has-append}
-use Rattle.lock.proofs.Bools.{byBool, byEq, contra, neither}
+use Rattle.facts.proofs.Bools.{byBool, byEq, contra, neither}
 use Rattle.task.specs.Coming.{pendings, comes}
 use Rattle.task.specs.declared.Task.{Task}
 use Rattle.machine.specs.declared.State.{State}
@@ -70,7 +70,7 @@ pub instant-by : (l : ℕ) (n : Instant) (m : Moment) → comesBy l m ≡ true �
 instant-by l n Never e = contra e refl
 instant-by l n (At x) e = leb-true (x .0) l e
 
-before-before : (m : Moment) (x y : ℕ) → x ≤ y → before (instant y) m ≡ true → before (instant x) m ≡ true
+before-before : (m : Moment) (x y : ℕ) → x ≤ y → earlierThan (instant y) m ≡ true → earlierThan (instant x) m ≡ true
 before-before Never x y l e = refl
 before-before (At n) x y l e = lt-ltb x (n .0) (omega (arith, ltb-true y (n .0) e))
 
@@ -90,7 +90,7 @@ next-is-next k =
 
 module _ {k : State} where
   -- What comes is not before the next event.
-  not-before : {m : Moment} → IsNextEvent k m → (a : Instant) → k .now .0 < a .0 → Comes a k → before a m ≡ true → ⊥
+  not-before : {m : Moment} → IsNextEvent k m → (a : Instant) → k .now .0 < a .0 → Comes a k → earlierThan a m ≡ true → ⊥
   not-before p a l c b =
       let e : k .now .0 + (a .0 - k .now .0) ≡ a .0 = omega arith in
       contra (c .2) (p .quiet (a .0 - k .now .0) (rw e b) (c .0) (c .1) (a .0) l (omega arith))
@@ -111,10 +111,10 @@ pub one-is-next : OneIsNext
 one-is-next k m p = same-next m (nextEvent k) p (next-is-next k)
 
 -- While nothing comes, it is later.
-pub quiet-before : (k : State) (d : ℕ) → Quiet d k → before (plus (k .now) (duration d)) (nextEvent k) ≡ true
+pub quiet-before : (k : State) (d : ℕ) → Quiet d k → earlierThan (plus (k .now) (duration d)) (nextEvent k) ≡ true
 quiet-before k d q = go (nextEvent k) (next-is-next k)
   where
-    go : (m : Moment) → IsNextEvent k m → before (plus (k .now) (duration d)) m ≡ true
+    go : (m : Moment) → IsNextEvent k m → earlierThan (plus (k .now) (duration d)) m ≡ true
     go Never p = refl
     go (At x) p =
         let c = p .comes x refl in
@@ -122,7 +122,7 @@ quiet-before k d q = go (nextEvent k) (next-is-next k)
         (λ e. contra (c .2) (q (c .0) (c .1) (x .0) (p .later x refl) (ltb-false (k .now .0 + d) (x .0) e)))
 
 -- It is the same d quiet ticks later.
-pub next-later : (k : State) (d : ℕ) → before (plus (k .now) (duration d)) (nextEvent k) ≡ true → nextEvent (later d k) ≡ nextEvent k
+pub next-later : (k : State) (d : ℕ) → earlierThan (plus (k .now) (duration d)) (nextEvent k) ≡ true → nextEvent (later d k) ≡ nextEvent k
 unfolding later
 next-later k zero b = refl
 next-later k (suc d) b =

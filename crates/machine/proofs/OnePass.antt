@@ -7,12 +7,11 @@ use native.Mathlib.Omega.{arith}
 use lib.Dec.{ltb}
 use lib.ListN.{length}
 use borrow.Author.Tests.{ltb-true}
-use Rattle.lists.specs.Lists.{names}
+use Rattle.lists.specs.Lists.{names, every}
 use Rattle.lock.specs.declared.Way.the-variants.{Take}
-use Rattle.lock.specs.Locks.{waiting, every}
-use Rattle.lock.proofs.Bools.{byBool, byEq, contra, both}
-use Rattle.lock.proofs.Lists.{names-head, names-same, every-more, every-at}
-use Rattle.lock.proofs.Each.{names-tail}
+use Rattle.lock.specs.Locks.{waiting}
+use Rattle.facts.proofs.Bools.{byBool, byEq, contra, both}
+use Rattle.lists.proofs.EveryLaws.{names-head, names-same, every-more, every-at, names-tail}
 use Rattle.lock.proofs.Taking.{move-size}
 use Rattle.task.specs.State.{wanted}
 use Rattle.machine.specs.declared.State.{State}

@@ -12,7 +12,7 @@ use Rattle.layout.specs.declared.Marked.{Marked}
 use Rattle.layout.specs.declared.Marked.the-variants.{Unknown, Known}
 use Rattle.record.specs.declared.Read.the-variants.{Refused, Accepted}
 use Rattle.layout.specs.declared.Head.{Head}
-use Rattle.lock.proofs.Bools.{byBool}
+use Rattle.facts.proofs.Bools.{byBool}
 
 -- Bytes that are no call are refused with 2.
 pub opened-refused : (s : List ℕ) (n : ℕ) → opened s .answer ≡ Refused n → n ≡ 2

@@ -6,13 +6,13 @@ use mathlib.Core.List.{List}
 use Prim.Native.Nat.{ℕ, zero, suc}
 use native.Mathlib.Omega.{arith}
 use Rattle.layout.specs.Marks.{form}
-use Rattle.record.specs.Refusals.{unless, before, formed, listed, timed, shape, times, refusal}
+use Rattle.record.specs.Refusals.{unless, firstRefusal, formed, listed, timed, shape, times, refusal}
 use Rattle.record.specs.Reading.{accepted, opened, orRefused, judged, reading}
 use Rattle.layout.specs.declared.Mark.{Mark}
 use Rattle.layout.specs.declared.Call.{Call}
 use Rattle.record.specs.declared.Read.the-variants.{Refused, Accepted}
-use Rattle.record.proofs.ReaderLaws.{before-some}
-use Rattle.lock.proofs.Bools.{contra}
+use Rattle.record.proofs.ReaderLaws.{first-kept}
+use Rattle.facts.proofs.Bools.{contra}
 use Rattle.machine.specs.declared.Counts.{Counts}
 use Rattle.machine.specs.declared.State.{State}
 use Rattle.machine.specs.Running.{runner}
@@ -21,7 +21,7 @@ use Rattle.machine.specs.declared.Sort.{Sort}
 use Rattle.machine.specs.declared.Sort.the-variants.{Declaration, OneTask, TheRunner, ListAsked, ListGiven, AnInterrupt, EveryTask}
 use Rattle.machine.specs.Sorts.{sortOf, declaring, declares}
 use Rattle.machine.specs.Refusals.{declaredBy, declaredIn, formalRefusal}
-use Rattle.machine.specs.Step.{refuse, carryOn, step}
+use Rattle.machine.specs.Step.{answered, carryOn, step}
 use Rattle.machine.specs.Promises.{numberFor, RefusedByReader, Order, RefusalsInOrder}
 use Rattle.machine.proofs.Passed.{refusalOf}
 use Rattle.machine.proofs.Cases.{opened-cases, carried-by, stepOpened, step-on}
@@ -29,19 +29,19 @@ use Rattle.machine.proofs.Cases.{opened-cases, carried-by, stepOpened, 
 -- ---- shape or times
 
 -- The chain of refusals 2 to 6, where shape (s) or times (t) refuse.
-module _ (s t : ℕ) (six : t ≢ 0 → t ≡ 6) (some : before s t ≢ 0) where
+module _ (s t : ℕ) (six : t ≢ 0 → t ≡ 6) (some : firstRefusal s t ≢ 0) where
   chain : (a d : Bool) (room state : ℕ)
-      → before (unless a 2 (before s (unless d 5 (before t room)))) state ≡ unless a 2 (before s (unless d 5 6))
+      → firstRefusal (unless a 2 (firstRefusal s (unless d 5 (firstRefusal t room)))) state ≡ unless a 2 (firstRefusal s (unless d 5 6))
   chain false d room state = refl
   chain true d room state = go s t six some d
     where
-      go : (s t : ℕ) → (t ≢ 0 → t ≡ 6) → before s t ≢ 0 → (d : Bool) → before (before s (unless d 5 (before t room))) state ≡ before s (unless d 5 6)
+      go : (s t : ℕ) → (t ≢ 0 → t ≡ 6) → firstRefusal s t ≢ 0 → (d : Bool) → firstRefusal (firstRefusal s (unless d 5 (firstRefusal t room))) state ≡ firstRefusal s (unless d 5 6)
       go (suc s) t f g d = refl
       go zero t f g false = refl
       go zero zero f g true = absurd (g refl)
       go zero (suc t) f g true = f (λ e. omega arith)
 
-first-some : (a d : Bool) (s : ℕ) → unless a 2 (before s (unless d 5 6)) ≢ 0
+first-some : (a d : Bool) (s : ℕ) → unless a 2 (firstRefusal s (unless d 5 6)) ≢ 0
 first-some false d s = λ e. omega arith
 first-some true d (suc s) = λ e. omega arith
 first-some true true zero = λ e. omega arith
@@ -70,11 +70,11 @@ module _ (day : ℕ) (k : State) (c : Call) where
   refused-number h =
       chain (shape c) (times day (c .head)) (times-six day c) h late known _ _
 
-  on-refused : (n : ℕ) → refusalOf day k c ≡ n → n ≢ 0 → carryOn day k c ≡ refuse k n (runner k)
+  on-refused : (n : ℕ) → refusalOf day k c ≡ n → n ≢ 0 → carryOn day k c ≡ answered k n (runner k)
   on-refused zero e h = absurd (h refl)
   on-refused (suc n) e h = carried-by day k c ∙ rw e
 
-  carried : refusal day c ≢ 0 → carryOn day k c ≡ refuse k number (runner k)
+  carried : refusal day c ≢ 0 → carryOn day k c ≡ answered k number (runner k)
   carried h = on-refused number (refused-number h) (first-some late known (shape c))
 
 -- The reader's number for bytes that open to c is that of shape or times.
@@ -87,17 +87,17 @@ unfolding judged
 refused-by-reader day k s n v e =
     rw (step-on day k s v)
     (opened-cases s
-    (λ r. judged day (r .answer) r .answer ≡ Refused n → stepOpened day k (r .answer) (r .list) ≡ refuse k (numberFor k (r .answer) (r .list)) (runner k))
+    (λ r. judged day (r .answer) r .answer ≡ Refused n → stepOpened day k (r .answer) (r .list) ≡ answered k (numberFor k (r .answer) (r .list)) (runner k))
     (λ e. refl) (λ c e. let (q, h) = read-number (refusal day c) n c e in carried day k c (λ z. h (sym q ∙ z))) e)
 
 -- ---- where the numbers part
 
 -- 3 and 4 are the shape's, and 6 is the times'.
-shape-first : (s t n : ℕ) → (t ≢ 0 → t ≡ 6) → before s t ≡ n → n ≢ 0 → n ≢ 6 → s ≡ n
+shape-first : (s t n : ℕ) → (t ≢ 0 → t ≡ 6) → firstRefusal s t ≡ n → n ≢ 0 → n ≢ 6 → s ≡ n
 shape-first zero t n f e h g = absurd (g (sym e ∙ f (λ z. h (sym e ∙ z))))
 shape-first (suc s) t n f e h g = e
 
-times-last : (s t : ℕ) → s ≢ 6 → before s t ≡ 6 → s ≡ 0
+times-last : (s t : ℕ) → s ≢ 6 → firstRefusal s t ≡ 6 → s ≡ 0
 times-last zero t h e = refl
 times-last (suc s) t h e = absurd (h e)
 
@@ -137,8 +137,8 @@ module _ (day : ℕ) (k : State) (s : List ℕ) (c : Call) (v : kernelRefusal da
   read n e = read-number (refusal day c) n c (rw o at e)
 
   -- What the reader refuses, by its number.
-  by-reader : (n m : ℕ) → reading day s .answer ≡ Refused n → numberFor k (Accepted (c .head)) (c .list) ≡ m → step day k s ≡ refuse k m (runner k)
-  by-reader n m e q = let (r, h) = read n e in stepped ∙ carried day k c (λ z. h (sym r ∙ z)) ∙ ap (λ (i : ℕ). refuse k i (runner k)) q
+  by-reader : (n m : ℕ) → reading day s .answer ≡ Refused n → numberFor k (Accepted (c .head)) (c .list) ≡ m → step day k s ≡ answered k m (runner k)
+  by-reader n m e q = let (r, h) = read n e in stepped ∙ carried day k c (λ z. h (sym r ∙ z)) ∙ ap (λ (i : ℕ). answered k i (runner k)) q
 
   two : k .begun ≡ true → declares (c .head .mark) ≡ true → refusalOf day k c ≡ 2
   unfolding refusalOf formalRefusal
@@ -156,7 +156,7 @@ module _ (day : ℕ) (k : State) (s : List ℕ) (c : Call) (v : kernelRefusal da
   in-order =
       record {
         late = λ b d. stepped ∙ on-refused day k c 2 (two b d) (λ z. omega arith);
-        shaped = λ n l e g. by-reader n n e (rw (l, shape-read n e g) (sym (before-some n _ (read n e .1))));
+        shaped = λ n l e g. by-reader n n e (rw (l, shape-read n e g) (sym (first-kept n _ (read n e .1))));
         unknown = λ e d. by-reader 6 5 e (rw (and-false (k .begun) _ (not-declared (c .head .mark) (k .counts) c d), shape-passed e, d));
         timed = λ l e d. by-reader 6 6 e (rw (l, shape-passed e, d));
       }

@@ -7,8 +7,8 @@ use lib.ListN.{set}
 use lib.Seq.{getD-set-same, getD-set-other}
 use Rattle.lock.specs.declared.Way.the-variants.{Take}
 use Rattle.lock.specs.declared.Locks.{Locks}
-use Rattle.lock.proofs.Bools.{byEq, contra}
-use Rattle.lock.proofs.Tables.{Like, like-set}
+use Rattle.facts.proofs.Bools.{byEq, contra}
+use Rattle.facts.proofs.Tables.{Like, like-set}
 use Rattle.lock.proofs.Alike.{Alike, seen, move-alike}
 use Rattle.task.specs.State.{noTask, wanted, waitOver}
 use Rattle.task.specs.declared.Task.{Task}

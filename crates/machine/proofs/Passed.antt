@@ -13,13 +13,13 @@ use Rattle.layout.specs.Marks.{is, form}
 use Rattle.layout.specs.declared.Mark.{Mark}
 use Rattle.layout.specs.declared.Mark.the-variants.{DT, DS, DB, IT, AC, TE, SU, TI, SL}
 use Rattle.layout.specs.declared.Call.{Call}
-use Rattle.record.specs.Refusals.{mostValue, mostNumbers, formedAs, formed, named, listed, timed, unless, before, shape, times}
-use Rattle.lists.specs.Lists.{distinct}
-use Rattle.lock.specs.Locks.{mostLocks, waiting, every, taken, valueAt, boltAt}
+use Rattle.record.specs.Refusals.{mostValue, formedAs, formed, named, listed, timed, unless, firstRefusal, shape, times}
+use Rattle.lists.specs.Lists.{distinct, every}
+use Rattle.lock.specs.Locks.{mostLocks, waiting, returnable, valueAt, boltAt}
 use Rattle.lock.specs.declared.Locks.{Locks}
 use Rattle.lock.specs.declared.Wait.{Wait}
 use Rattle.lock.specs.declared.Wait.the-variants.{Nothing, Request, Reserve, Enter}
-use Rattle.lock.proofs.Bools.{both}
+use Rattle.facts.proofs.Bools.{both}
 use Rattle.task.specs.State.{unheld, suspended, restOk, wanted}
 use Rattle.task.specs.declared.Task.{Task}
 use Rattle.machine.proofs.Below.{all-at}
@@ -32,6 +32,7 @@ use Rattle.machine.specs.Test.{between, isPriority, keptOk, holdOk, wait
 use Rattle.machine.specs.Running.{someone}
 use Rattle.machine.specs.Sorts.{sortOf, declares, needsRunner, givenKind}
 use Rattle.machine.specs.Refusals.{declaredIn, roomFor, formalRefusal, unreturnable, isContinue, refusalBy, stateRefusal}
+use Rattle.layout.specs.Fields.{mostNumbers}
 
 -- ---- a call or declaration
 
@@ -39,7 +40,7 @@ pub unless-passed : (b : Bool) (n rest : ℕ) → unless b (suc n) rest ≡ 0 �
 unless-passed true n rest e = (refl, e)
 unless-passed false n rest e = absurd (omega arith)
 
-pub before-passed : (n rest : ℕ) → before n rest ≡ 0 → (n ≡ 0) × (rest ≡ 0)
+pub before-passed : (n rest : ℕ) → firstRefusal n rest ≡ 0 → (n ≡ 0) × (rest ≡ 0)
 before-passed zero rest e = (refl, e)
 before-passed (suc n) rest e = absurd (omega arith)
 
@@ -73,7 +74,7 @@ pub record Unrefused (m : Mark) (c : Call) (r : Running) (t : Task) (l : Locks) 
   pub lives : (not (is m TE || is m SU || isContinue m (c .head)) || t .alive) ≡ true
   pub unsuspended : (not (is m SU) || not (suspended (t .hold))) ≡ true
   pub held : (not (isContinue m (c .head)) || not (unheld (t .hold))) ≡ true
-  pub returnable : (not (waiting (givenKind (sortOf m))) || every (taken (givenKind (sortOf m)) l) (named c)) ≡ true
+  pub returnable : (not (waiting (givenKind (sortOf m))) || every (returnable (givenKind (sortOf m)) l) (named c)) ≡ true
   pub goes : (not (is m TI) || ltb (n .0) lastInstant) ≡ true
   pub wakes : (not (is m SL) || comesBy lastInstant e) ≡ true
 
@@ -92,14 +93,14 @@ unrefused m c r t l n x e =
     let d = unless-passed (not (is m TE || is m SU || isContinue m (c .head)) || t .alive) 9 _ (b .1) in
     let f = unless-passed (not (is m SU) || not (suspended (t .hold))) 10 _ (d .1) in
     let g = unless-passed (not (isContinue m (c .head)) || not (unheld (t .hold))) 11 _ (f .1) in
-    let h = unreturnable-passed w (not (waiting w) || every (taken w l) (named c)) _ (g .1) in
+    let h = unreturnable-passed w (not (waiting w) || every (returnable w l) (named c)) _ (g .1) in
     let i = unless-passed (not (is m TI) || ltb (n .0) lastInstant) 14 _ (h .1) in
     let j = unless-passed (not (is m SL) || comesBy lastInstant x) 16 0 (i .1) in
     record { runs = a .0; ended = b .0; lives = d .0; unsuspended = f .0; held = g .0; returnable = h .0; goes = i .0; wakes = j .0 }
 
 -- 2 to 15, 17, or 0.
 unfoldable pub refusalOf : ℕ → State → Call → ℕ
-refusalOf day k c = before (formalRefusal day (k .counts) (k .begun) c) (stateRefusal (c .head .mark) k c)
+refusalOf day k c = firstRefusal (formalRefusal day (k .counts) (k .begun) c) (stateRefusal (c .head .mark) k c)
 
 -- A call with the mark m that no refusal from 2 on stops.
 pub record Passed (day : ℕ) (m : Mark) (k : State) (c : Call) : Type 0 where

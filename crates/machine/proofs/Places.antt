@@ -10,8 +10,9 @@ use lib.Dec.{ltb, eqb}
 use lib.ListN.{length, set, length-set, length-map, List·getD-map}
 use lib.Seq.{getD-set-same, getD-set-other, set-out}
 use borrow.Author.Tests.{ltb-true, ltb-false, lt-ltb, le-ltb, eq-eqb, ne-eqb, not-true}
-use Rattle.lock.proofs.Tables.{Like}
-use Rattle.lock.proofs.Bools.{byBool, byEq, contra, both, and-both, not-of-false}
+use Rattle.facts.proofs.Numbers.{ltb-alike}
+use Rattle.facts.proofs.Tables.{Like}
+use Rattle.facts.proofs.Bools.{byBool, byEq, contra, both, and-both, not-of-false}
 use Rattle.lock.specs.Locks.{waiting}
 use Rattle.task.specs.State.{unheld, runnable}
 use Rattle.task.specs.declared.Task.{Task}
@@ -77,11 +78,6 @@ close-before p q l = rw (le-ltb p q l)
 
 pub close-le : (p q : ℕ) → closeUp p q ≤ q
 close-le p q = byBool (ltb p q) (λ e. rw e (omega arith)) (λ e. rw e (omega arith))
-
-pub ltb-alike : (a b c d : ℕ) → (a < b → c < d) → (c < d → a < b) → ltb a b ≡ ltb c d
-ltb-alike a b c d f g =
-    byBool (ltb a b) (λ e. rw (e, lt-ltb c d (f (ltb-true a b e))))
-    (λ e. byBool (ltb c d) (λ z. contra (lt-ltb a b (g (ltb-true c d z))) e) (λ z. rw (e, z)))
 
 -- Closing up keeps the order of all who don't stand at p.
 close-order : (p a b : ℕ) → a ≢ p → b ≢ p → ltb (closeUp p a) (closeUp p b) ≡ ltb a b

@@ -8,19 +8,19 @@ use Rattle.machine.specs.declared.State.{State}
 use Rattle.machine.specs.declared.Running.{Running}
 use Rattle.machine.specs.declared.Running.the-variants.{Idle}
 use Rattle.machine.specs.Test.{kernelRefusal}
-use Rattle.machine.specs.Step.{plainAnswer, refuse, step}
+use Rattle.machine.specs.Step.{plainAnswer, answered, step}
 use Rattle.machine.specs.Log.{final, log}
 use Rattle.machine.specs.Promises.{Untouched, RefusedIsUntouched, UntestedIsRefused, MisfiledIsRefused, TurnedAway, TurnedAwayForGood, Numbered, RefusalsAreNumbered}
 use Rattle.machine.proofs.Filing.{filed-not}
 use Rattle.machine.proofs.SetLaws.{no-members}
 use Rattle.machine.proofs.Cases.{done-number, step-cases}
 
-refuse-untouched : (k : State) (n : ℕ) (r : Running) → Untouched k (refuse k n r)
-unfolding refuse
+refuse-untouched : (k : State) (n : ℕ) (r : Running) → Untouched k (answered k n r)
+unfolding answered
 refuse-untouched k n r = record { state = refl; sets = no-members }
 
-refuse-number : (k : State) (n : ℕ) (r : Running) → refuse k n r .answer .number ≡ n
-unfolding refuse
+refuse-number : (k : State) (n : ℕ) (r : Running) → answered k n r .answer .number ≡ n
+unfolding answered
 refuse-number k n r = refl
 
 pub refused-untouched : RefusedIsUntouched
@@ -29,17 +29,17 @@ refused-untouched day k s =
     (λ v c e h. absurd (h (done-number day k c))) s
 
 pub untested-refused : UntestedIsRefused
-unfolding step kernelRefusal refuse
+unfolding step kernelRefusal answered
 untested-refused day k s v = rw v
 
 pub misfiled-refused : MisfiledIsRefused
-unfolding step kernelRefusal refuse
+unfolding step kernelRefusal answered
 misfiled-refused day k s v m = rw (v, filed-not k m)
 
 -- ---- a list of records
 
 pub turned-away : (day n : ℕ) (k : State) (s : List ℕ) → kernelRefusal day k ≡ suc n → step day k s ≡ record { state = k; answer = plainAnswer (suc n) Idle }
-unfolding step refuse
+unfolding step answered
 turned-away day n k s e = rw e
 
 pub turned-away-for-good : TurnedAwayForGood

@@ -11,13 +11,13 @@ use Rattle.calendar.specs.declared.Instant.{Instant}
 use Rattle.calendar.specs.declared.End.{End}
 use Rattle.calendar.specs.declared.End.the-variants.{Open, Until, During}
 use Rattle.calendar.specs.declared.Moment.{Moment}
-use Rattle.calendar.specs.declared.Moment.the-variants.{Never, At as Then}
+use Rattle.calendar.specs.declared.Moment.the-variants.{Never, At}
 use Rattle.calendar.proofs.Bounds.{ShortStart, ShortEnd, Within, first-within, last-within, next-within, within-more}
 use Rattle.record.specs.Refusals.{Used, onInterrupt, atTime, afterDuration, start, orZero, cleanStart, ranged, endTimed, firstTimed, startTimed, startFormed}
 use Rattle.layout.specs.declared.Head.{Head}
-use Rattle.lock.proofs.Bools.{byBool, byEq, contra, both, and-both, or-then, then-or, or-right}
+use Rattle.facts.proofs.Bools.{byBool, byEq, contra, both, and-both, or-then, then-or, or-right}
 use Rattle.schedule.specs.Alarms.{pending, listening, planned, comingAt, rearmed, setOff, startOf, alarmOf}
-use Rattle.schedule.specs.Schedules.{withAlarm, advanced, advance, lastOf, begun, triggered}
+use Rattle.schedule.specs.Schedules.{withAlarm, advanced, advance, lastOf, beginWith, triggered}
 use Rattle.schedule.specs.declared.Alarm.{Alarm}
 use Rattle.schedule.specs.declared.Schedule.{Schedule}
 use Rattle.machine.specs.Test.{mostPriority, isPriority, isStored, endOk, momentOk, listenerOk, alarmOk, lastOk, termsOk, scheduleOk, continuationOk}
@@ -31,7 +31,7 @@ short-end day (During d) h = leb-true (d .0) longestDuration (both (leb 1 (d .0)
 
 moment-stored : (m : Moment) → Within mostInstant m → momentOk m ≡ true
 moment-stored Never h = refl
-moment-stored (Then n) h = le-leb (n .0) mostInstant h
+moment-stored (At n) h = le-leb (n .0) mostInstant h
 
 pub terms-parts : (day : ℕ) (s : Schedule) → termsOk day s ≡ true → (isPriority (s .priority) ≡ true) × (s .period ≤ longestDuration) × (endOk day (s .end) ≡ true)
 terms-parts day s e =
@@ -147,7 +147,7 @@ module _ (day ni : ℕ) where
 
   advanced-ok : (m : Moment) (s : Schedule) → Within mostInstant m → Parts s → Ok (advanced m s)
   unfolding alarmOk scheduleOk
-  advanced-ok (Then x) s h p =
+  advanced-ok (At x) s h p =
       of-parts (withAlarm (comingAt (s .alarm .plan) x (s .alarm)) s) (record {
         alarm = and-both (heard ni (s .alarm) (p .alarm)) (then-or (pending (s .alarm .plan)) _ (λ q. le-leb (x .0) mostInstant h));
         last = p .last;
@@ -167,7 +167,7 @@ module _ (day ni : ℕ) where
       (within-more (n .0 + longestDuration) mostInstant (nextDue (s .period) (s .last) n) (omega arith) (next-within (s .period) (s .last) n (t .1))) p
 
   module _ (isDay : IsDay day) (clock : ℕ) where
-    begun-ok : (a : Alarm) (e : End) (period p : ℕ) → Soon ni a → termsOk day (begun day clock a e period p) ≡ true → Ok (begun day clock a e period p)
+    begun-ok : (a : Alarm) (e : End) (period p : ℕ) → Soon ni a → termsOk day (beginWith day clock a e period p) ≡ true → Ok (beginWith day clock a e period p)
     unfolding lastOf
     begun-ok a e period p h t =
         of-parts _ (record {
@@ -176,7 +176,7 @@ module _ (day ni : ℕ) where
               then-or (pending (a .plan)) _
               (λ q.
               let l = h .near q in
-              let m = last-within day (isDay .some) (isDay .room) clock e (a .next) (short-end day e (terms-parts day (begun day clock a e period p) t .2)) in
+              let m = last-within day (isDay .some) (isDay .room) clock e (a .next) (short-end day e (terms-parts day (beginWith day clock a e period p) t .2)) in
               rw q (moment-stored (lastAllowed day e clock (a .next)) (within-more _ mostInstant (lastAllowed day e clock (a .next)) (omega arith) m)));
           terms = t;
         })

@@ -11,8 +11,8 @@ use lib.ListN.{length, length-set, List·getD-eq-default}
 use lib.Seq.{getD-set-same, getD-set-other}
 use borrow.Author.Tests.{ltb-true, ltb-false}
 use Rattle.lock.specs.declared.Way.the-variants.{Take}
-use Rattle.lock.specs.Locks.{bit, waiting, grantable}
-use Rattle.lock.proofs.Bools.{byBool, byEq, contra, both, bit-le}
+use Rattle.lock.specs.Locks.{bit, waiting, allFree}
+use Rattle.facts.proofs.Bools.{byBool, byEq, contra, both}
 use Rattle.lock.proofs.Levels.{Proper, SameSize}
 use Rattle.lock.proofs.Taking.{move-size, move-most}
 use Rattle.task.specs.State.{noTask, unheld, isKept, wanted, waitOver}
@@ -30,6 +30,7 @@ use Rattle.machine.specs.Invariants.{ServingEnds}
 use Rattle.machine.proofs.Below.{mostUrgent-idle, mostUrgent-at, sum-update, sum-at, sum-le}
 use Rattle.machine.proofs.Facts.{TaskOk, Bounded, StateOk, proper-list}
 use Rattle.machine.proofs.Granting.{could-free}
+use Rattle.lock.proofs.Bits.{bit-le}
 
 -- ---- one grant
 
@@ -43,7 +44,7 @@ module _ (n : ℕ) (p : Served) (j : ℕ) (e : servable n (p .tasks) (p .locks) 
   pub served-waits : waiting (taskAt (p .tasks) j .wait) ≡ true
   served-waits = both _ _ e .0
 
-  pub served-free : grantable (taskAt (p .tasks) j .wait) (p .locks) (wanted (taskAt (p .tasks) j)) ≡ true
+  pub served-free : allFree (taskAt (p .tasks) j .wait) (p .locks) (wanted (taskAt (p .tasks) j)) ≡ true
   served-free = could-free _ _ _ _ (taskAt (p .tasks) j .wait) (wanted (taskAt (p .tasks) j)) (both (waiting (taskAt (p .tasks) j .wait)) _ e .1)
 
   pub grant-at : taskAt (grantTo j p .tasks) j ≡ waitOver (taskAt (p .tasks) j)

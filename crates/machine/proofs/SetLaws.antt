@@ -8,6 +8,7 @@ use native.Mathlib.Nat.{div-one, div-div-eq-div-mul, pow-suc, mul-comm, zero-div
 use native.Mathlib.Omega.{arith}
 use lib.Bits.{bitOr, or-shr, or-step, or-lt}
 use lib.ListN.{getD, length}
+use Rattle.facts.proofs.Numbers.{pow-pos, pow-lt}
 use Rattle.lock.specs.Locks.{bit}
 use Rattle.task.specs.Turns.{unmarked}
 use Rattle.task.specs.declared.Task.{Task}
@@ -107,15 +108,6 @@ has-setOf zero (b ∷ bs) = has-zero (setOf (b ∷ bs)) ∙ setOf-low b (setOf b
 has-setOf (suc i) (b ∷ bs) = has-suc i (setOf (b ∷ bs)) ∙ ap (has i) (setOf-high b (setOf bs)) ∙ has-setOf i bs
 
 -- ---- sets of the first n tasks
-
-pub pow-pos : (n : ℕ) → 0 < 2 ^ n
-pow-pos zero = omega arith
-pow-pos (suc n) = rw (pow-suc 2 n) (omega (arith, pow-pos n))
-
-pub pow-lt : (i n : ℕ) → i < n → 2 ^ i < 2 ^ n
-pow-lt i zero h = absurd (omega arith)
-pow-lt zero (suc n) h = rw (pow-suc 2 n) (omega (arith, pow-pos n))
-pow-lt (suc i) (suc n) h = rw (pow-suc 2 i, pow-suc 2 n) (omega (arith, pow-lt i n (omega arith)))
 
 pub only-lt : (n i : ℕ) (b : Bool) → i < n → only i b < 2 ^ n
 only-lt n i true h = pow-lt i n h

@@ -8,7 +8,7 @@ use lib.ListN.{length}
 use borrow.Author.Tests.{le-leb, lt-ltb}
 use Rattle.calendar.specs.Limits.{lastInstant}
 use Rattle.calendar.specs.Times.{instant, duration, plus}
-use Rattle.calendar.specs.Moments.{before, comesBy, instantOr, firstAfter}
+use Rattle.calendar.specs.Moments.{earlierThan, comesBy, instantOr, firstAfter}
 use Rattle.calendar.specs.declared.Instant.{Instant}
 use Rattle.calendar.specs.declared.Moment.{Moment}
 use Rattle.calendar.specs.declared.Moment.the-variants.{Never, At}
@@ -27,11 +27,10 @@ use Rattle.machine.specs.Test.{kernelRefusal}
 use Rattle.machine.specs.Sorts.{declares}
 use Rattle.machine.specs.Refusals.{admittedIf, refusalBy, stateRefusal}
 use Rattle.machine.specs.Calls.{arrive, arrival, workBy}
-use Rattle.machine.specs.Step.{refuse, finish, orRefuse, carryOut, settle, step}
-use Rattle.machine.specs.Log.{final}
-use Rattle.machine.specs.Scripts.{row, oneTick, sleep}
+use Rattle.machine.specs.Step.{finish, orRefuse, carryOut, settle, step}
+use Rattle.machine.specs.Scripts.{oneTick, sleep}
 use Rattle.machine.specs.Quiet.{IsNextEvent, later}
-use Rattle.machine.specs.Sleeping.{FiledIsNext, NoneIsForGood, Slept, SleepIsTicks, SleepIsRefused}
+use Rattle.machine.specs.Sleeping.{FiledIsNext, NoneIsForGood, SleepIsTicks, SleepIsRefused}
 use Rattle.machine.proofs.Filing.{taken-next}
 use Rattle.machine.proofs.NextEvent.{pending-alike, next-is-next}
 use Rattle.machine.proofs.Accepted.{serving-keeps}
@@ -98,7 +97,7 @@ sleep-is-ticks day k x room v e l =
     let late : k .now .0 < x .0 = next-is-next k .later x n in
     let d = x .0 - k .now .0 - 1 in
     let reach : k .now .0 + suc d ≡ x .0 = omega arith in
-    let b : before (plus (k .now) (duration d)) (nextEvent k) ≡ true = rw n (lt-ltb (k .now .0 + d) (x .0) (omega arith)) in
+    let b : earlierThan (plus (k .now) (duration d)) (nextEvent k) ≡ true = rw n (lt-ltb (k .now .0 + d) (x .0) (omega arith)) in
     let q = quiet-up-to-next day d k room v b (omega arith) .0 in
     let z = later-as day d k v (next-is-next k .quiet d b) (omega arith) in
     let s = sleep-to day k v x n l in

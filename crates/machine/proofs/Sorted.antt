@@ -8,11 +8,9 @@ use native.Mathlib.Nat.{not-suc-le-zero}
 use native.Mathlib.Omega.{arith}
 use lib.Dec.{ltb, eqb}
 use borrow.Author.Tests.{ltb-true, ltb-false, lt-ltb}
-use Rattle.lists.specs.Lists.{names}
-use Rattle.lock.specs.Locks.{every}
-use Rattle.lock.proofs.Bools.{byBool, byEq, contra, both, and-both}
-use Rattle.lock.proofs.Lists.{names-head, names-same, every-at, every-then}
-use Rattle.lock.proofs.Each.{names-tail, every-from}
+use Rattle.lists.specs.Lists.{names, every}
+use Rattle.facts.proofs.Bools.{byBool, byEq, contra, both, and-both}
+use Rattle.lists.proofs.EveryLaws.{names-head, names-same, every-at, every-then, names-tail, every-from}
 use Rattle.task.specs.declared.Task.{Task}
 use Rattle.machine.specs.State.{mostTasks}
 use Rattle.machine.specs.Running.{urgency}

@@ -14,14 +14,15 @@ use Rattle.layout.specs.declared.Form.{Form}
 use Rattle.layout.specs.declared.Form.the-variants.{Bare, Number, Continuation, DeclaredPriority, Preset, TimeOfDay, Resumption, Activation, Numbers, OneNumber}
 use Rattle.layout.proofs.MarksLaws.{is-mark, allMarks, every-mark}
 use Rattle.lists.specs.Lists.{allZero, names, distinct}
-use Rattle.record.specs.Refusals.{mostNumbers, uses, orZero, cleanNames, cleanStart, ranged, formedAs, named, listed}
+use Rattle.record.specs.Refusals.{uses, orZero, cleanNames, cleanStart, ranged, formedAs, named, listed}
 use Rattle.layout.specs.declared.Mark.the-variants.{AC, TE, SU, PR, CO, TI, SL}
 use Rattle.lock.specs.Locks.{waiting}
 use Rattle.lock.specs.declared.Wait.{Wait}
-use Rattle.lock.proofs.Bools.{byBool, contra, both, and-both}
+use Rattle.facts.proofs.Bools.{byBool, contra, both, and-both}
 use Rattle.machine.specs.declared.Sort.{Sort}
 use Rattle.machine.specs.declared.Sort.the-variants.{Declaration, OneTask, TheRunner, ListAsked, ListGiven, AnInterrupt, EveryTask}
 use Rattle.machine.specs.Sorts.{sortOf}
+use Rattle.layout.specs.Fields.{mostNumbers}
 
 -- The call has a list.
 abbrev pub listing : Sort → Bool

@@ -13,7 +13,7 @@ use borrow.Author.Tests.{ltb-true, ltb-false, lt-ltb, le-ltb, eq-eqb, ne-eqb, no
 use Rattle.layout.specs.declared.Mark.{Mark}
 use Rattle.layout.specs.declared.Call.{Call}
 use Rattle.lock.specs.Locks.{waiting}
-use Rattle.lock.proofs.Bools.{byBool, byEq, contra, both}
+use Rattle.facts.proofs.Bools.{byBool, byEq, contra, both}
 use Rattle.task.specs.State.{noTask, unheld, runnable}
 use Rattle.task.specs.declared.Task.{Task}
 use Rattle.machine.specs.declared.State.{State}
@@ -28,7 +28,7 @@ use Rattle.machine.specs.Places.{event, standsBefore}
 use Rattle.machine.specs.Work.{Work}
 use Rattle.machine.specs.Test.{valid}
 use Rattle.machine.specs.Calls.{addTask, addSemaphore, addBolt, addInterrupt, declaration, workOf}
-use Rattle.machine.specs.Step.{refuse, finish, declared, carryOut, step}
+use Rattle.machine.specs.Step.{answered, finish, declared, carryOut, step}
 use Rattle.machine.specs.Log.{AllOctets, final}
 use Rattle.machine.specs.Promises.{AreBytes}
 use Rattle.machine.specs.Invariants.{IsDay, Passes}
@@ -69,8 +69,8 @@ moves-to-end n e ps q room = moved-order n e ps (apart-of n ps q) room
 
 -- ---- who has no event
 
-refuse-no-event : (k : State) (n : ℕ) (r : Running) (i : ℕ) → eventIn k (refuse k n r) i ≡ false
-unfolding refuse
+refuse-no-event : (k : State) (n : ℕ) (r : Running) (i : ℕ) → eventIn k (answered k n r) i ≡ false
+unfolding answered
 refuse-no-event k n r i = no-event (k .tasks) i
 
 -- A task that was just declared is neither runnable nor waiting.
@@ -125,8 +125,8 @@ module _ (k : State) where
       → ((i : ℕ) → i < k .counts .tasks → placeAt (t .state .places) i ≡ placeAt (k .places) i) → Moves k t
   moves-nobody t e f i j l m = rw (e i, e j, f i l, f j m)
 
-  moves-refuse : (n : ℕ) (r : Running) → Moves k (refuse k n r)
-  moves-refuse n r = moves-nobody (refuse k n r) (refuse-no-event k n r) (λ i l. unfold refuse in refl)
+  moves-refuse : (n : ℕ) (r : Running) → Moves k (answered k n r)
+  moves-refuse n r = moves-nobody (answered k n r) (refuse-no-event k n r) (λ i l. unfold answered in refl)
 
   -- A declaration leaves the places of the tasks before it.
   kept-places : (m : Mark) (c : Call) (i : ℕ) → i < k .counts .tasks → placeAt (declaration m c k .places) i ≡ placeAt (k .places) i
@@ -197,9 +197,9 @@ module _ (k : State) (n : ℕ) (m : ℕ → ℕ) (h : Told k n m) where
           (λ e. byBool (eventIn k t j) (λ q. rw (e, q, lt-ltb (m i) (suc n) (omega arith))) (λ q. rw (e, q) (h .order i j l o)))
 
   module _ (day : ℕ) (p : Passes day k) where
-    told-refuse : (a : ℕ) (r : Running) → Told (refuse k a r .state) (suc n) (next k (refuse k a r) n m)
-    unfolding refuse
-    told-refuse a r = told-same (refuse k a r) (moves-refuse k a r) refl (λ b. (b, refuse-no-event k a r))
+    told-refuse : (a : ℕ) (r : Running) → Told (answered k a r .state) (suc n) (next k (answered k a r) n m)
+    unfolding answered
+    told-refuse a r = told-same (answered k a r) (moves-refuse k a r) refl (λ b. (b, refuse-no-event k a r))
 
     told-finish : (w : Work) → Told (finish k w .state) (suc n) (next k (finish k w) n m)
     unfolding finish

@@ -12,12 +12,12 @@ use Rattle.record.specs.Refusals.{scheduled, onInterrupt, atTime, afterDuration
 use Rattle.layout.specs.declared.Form.the-variants.{Continuation, Resumption}
 use Rattle.layout.specs.declared.Head.{Head}
 use Rattle.lock.specs.Locks.{waiting}
-use Rattle.lock.proofs.Bools.{byBool, contra, both, and-both, or-right}
+use Rattle.facts.proofs.Bools.{byBool, contra, both, and-both, or-right}
 use Rattle.task.specs.State.{unheld, isKept, withKept, withHold, withCurrent, withSchedule, withContinuation}
 use Rattle.schedule.specs.Alarms.{pending, listening, planned, falls, listens}
 use Rattle.schedule.specs.Schedules.{noSchedule, advance, triggered}
 use Rattle.task.specs.Continuations.{orElse, goesOn, dropped, spent, continued, continueAt, calledBy}
-use Rattle.task.specs.Turns.{unmarked, running, terminated, dueIf, dueTurn, endIf, endTurn, preventTurn, suspendTurn, continueTurn, resumeTurn, delayEnds, wake, fallTurn, tickTurn, scheduleTurn, startTurn, triggerTurn, laterTurn, restTurn}
+use Rattle.task.specs.Turns.{unmarked, started, terminated, dueIf, dueTurn, endIf, endTurn, preventTurn, suspendTurn, goOnTurn, delayTurn, delayEnds, wake, fallTurn, tickTurn, planTurn, startTurn, triggerTurn, goOnLaterTurn, restTurn}
 use Rattle.schedule.specs.declared.Alarm.{Alarm}
 use Rattle.task.specs.declared.Hold.{Hold}
 use Rattle.task.specs.declared.Hold.the-variants.{Unheld, Suspended, Delayed}
@@ -32,7 +32,7 @@ use Rattle.task.proofs.Alike.{like-refl}
 use Rattle.task.proofs.Fairness.{rest-facts, fair-unmarked, fair-due, fair-end, fair-prevent, fair-suspend, fair-continue, fair-resume, fair-tick, fair-schedule, fair-trigger, fair-later, fair-rest}
 use Rattle.machine.specs.declared.Counts.{Counts}
 use Rattle.machine.specs.Test.{mostPriority, isPriority, keptOk, holdOk, alarmOk, scheduleOk, continuationOk}
-use Rattle.machine.specs.Activation.{alarmBy, scheduleOf, activateTurn, goOnTurn, resumeBy}
+use Rattle.machine.specs.Activation.{alarmBy, scheduleOf, activateBy, continueBy, resumeBy}
 use Rattle.machine.specs.Invariants.{IsDay}
 use Rattle.machine.proofs.Facts.{TaskOk}
 use Rattle.machine.proofs.Schedules.{Ok, clean-first, soon-ok, setOff-soon, rearmed-ok, alarmOf-soon, terms-parts, pending-terms, advance-ok, triggered-ok, scheduleOf-ok, goes-parts, goes-of}
@@ -46,7 +46,7 @@ module _ (day : ℕ) (n : Counts) where
   abbrev In : Task → Type 0
   In t = TaskOk day n t
 
-  running-ok : (p : ℕ) (t : Task) → isPriority p ≡ true → In t → In (running p t)
+  running-ok : (p : ℕ) (t : Task) → isPriority p ≡ true → In t → In (started p t)
   running-ok p t q h =
       record {
         declared-ok = h .declared-ok;
@@ -185,16 +185,16 @@ module _ (day : ℕ) (n : Counts) where
       hold-in Unheld (withCurrent (orElse p (t .current)) t) (λ z. contra refl z) refl
       (current-in (orElse p (t .current)) t (or-else p (t .current) l (h .current-ok)) h)
 
-  pub good-continue : (p : ℕ) (t : Task) → p ≤ mostPriority → In t → Good day n false t (continueTurn p t)
+  pub good-continue : (p : ℕ) (t : Task) → p ≤ mostPriority → In t → Good day n false t (goOnTurn p t)
   good-continue p t l h =
       record {
         fair = fair-continue p t;
-        ok = unfold continueTurn in goes-on-in p t l h;
+        ok = unfold goOnTurn in goes-on-in p t l h;
       }
 
-  pub good-resume : (m : Instant) (t : Task) → t .alive ≡ true → m .0 ≤ mostInstant → In t → Good day n false t (resumeTurn m t)
+  pub good-resume : (m : Instant) (t : Task) → t .alive ≡ true → m .0 ≤ mostInstant → In t → Good day n false t (delayTurn m t)
   good-resume m t a l h =
-      record { fair = fair-resume m t; ok = unfold resumeTurn in hold-in (Delayed m) t (λ z. a) (le-leb (m .0) mostInstant l) h }
+      record { fair = fair-resume m t; ok = unfold delayTurn in hold-in (Delayed m) t (λ z. a) (le-leb (m .0) mostInstant l) h }
 
   -- ---- schedules
 
@@ -260,7 +260,7 @@ module _ (day : ℕ) (n : Counts) where
       rw e (continue-at-in m _ (continuation-in _ _ _ t (goes-of (n .interrupts) _ (t .given) s (g .1)) h)))
       (λ e. rw e h)
 
-  pub good-later : (m : Instant) (a : Alarm) (p : ℕ) (r : Bool) (t : Task) → alarmOk (n .interrupts) a ≡ true → p ≤ mostPriority → In t → Good day n false t (laterTurn m a p r t)
+  pub good-later : (m : Instant) (a : Alarm) (p : ℕ) (r : Bool) (t : Task) → alarmOk (n .interrupts) a ≡ true → p ≤ mostPriority → In t → Good day n false t (goOnLaterTurn m a p r t)
   good-later m a p r t q l h =
       record { fair = fair-later m a p r t; ok = continue-at-in m _ (continuation-in a p r t (goes-of (n .interrupts) a p q l) h) }
 
@@ -274,7 +274,7 @@ module _ (day : ℕ) (n : Counts) where
   pub good-tick : (m : Instant) (t : Task) → m .0 ≤ lastInstant → In t → Good day n false t (tickTurn m t)
   good-tick m t l h = record { fair = fair-tick m t (h .rests); ok = fall-ok m (continueAt m (wake m t)) l (continue-at-in m (wake m t) (wake-in m t h)) }
 
-  pub good-schedule : (m : Instant) (s : Schedule) (t : Task) → m .0 ≤ lastInstant → Ok day (n .interrupts) s → In t → Good day n false t (scheduleTurn m s t)
+  pub good-schedule : (m : Instant) (s : Schedule) (t : Task) → m .0 ≤ lastInstant → Ok day (n .interrupts) s → In t → Good day n false t (planTurn m s t)
   good-schedule m s t l q h = record { fair = fair-schedule m s t (h .rests); ok = fall-ok m (withSchedule s t) l (schedule-in s t q h) }
 
   pub good-same : (t : Task) → In t → Good day n false t (unmarked t)
@@ -295,8 +295,8 @@ module _ (day : ℕ) (n : Counts) where
 
     -- Kind 0 needs no schedule; another kind's passed refusals 3, 5 and 6.
     pub good-activate : (c : Head) (t : Task) → c .priority ≤ mostPriority → startFormed c ≡ true → startTimed day c ≡ true
-        → (not (onInterrupt (c .kind)) || ltb (c .interrupt) (n .interrupts)) ≡ true → In t → Good day n false t (activateTurn day clock m c t)
-    unfolding activateTurn
+        → (not (onInterrupt (c .kind)) || ltb (c .interrupt) (n .interrupts)) ≡ true → In t → Good day n false t (activateBy day clock m c t)
+    unfolding activateBy
     good-activate c t q f s i h =
         let r = or-else (c .priority) (t .declared) q (h .declared-ok) in
         byBool (eqb (c .kind) 0) (λ z. rw z (good-due (orElse (c .priority) (t .declared)) t r h))
@@ -309,8 +309,8 @@ module _ (day : ℕ) (n : Counts) where
     alarm-in c u f i = soon-ok (n .interrupts) _ (alarmOf-soon day (n .interrupts) isDay clock m l (c .kind) (c .first) (c .interrupt) u f i)
 
     pub good-go-on : (c : Head) (t : Task) → c .priority ≤ mostPriority → cleanStart (uses Continuation c) c ≡ true → timed day Continuation c ≡ true
-        → (not (onInterrupt (c .kind)) || ltb (c .interrupt) (n .interrupts)) ≡ true → In t → Good day n false t (goOnTurn day clock m c t)
-    unfolding goOnTurn uses timed
+        → (not (onInterrupt (c .kind)) || ltb (c .interrupt) (n .interrupts)) ≡ true → In t → Good day n false t (continueBy day clock m c t)
+    unfolding continueBy uses timed
     good-go-on c t q f s i h =
         byBool (eqb (c .kind) 0) (λ z. rw z (good-continue (c .priority) t q h))
         (λ z. rw z (good-later m (alarmBy day clock m c) (c .priority) false t (alarm-in c (clean-first _ c f) s i) q h))

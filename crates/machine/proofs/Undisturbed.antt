@@ -19,7 +19,7 @@ use Rattle.record.specs.declared.Read.{Read}
 use Rattle.record.specs.declared.Read.the-variants.{Refused, Accepted}
 use Rattle.lock.specs.declared.Locks.{Locks}
 use Rattle.lock.specs.declared.Wait.{Wait}
-use Rattle.lock.proofs.Bools.{byBool, byEq, contra, both, neither}
+use Rattle.facts.proofs.Bools.{byBool, byEq, contra, both, neither}
 use Rattle.task.specs.State.{noTask, waitFor}
 use Rattle.schedule.specs.Alarms.{falls, listens}
 use Rattle.task.specs.Continuing.{SameContinuation}
@@ -40,9 +40,9 @@ use Rattle.machine.specs.Granting.{couldBeGranted}
 use Rattle.machine.specs.Sorts.{sortOf, runnerAt}
 use Rattle.machine.specs.Work.{byTurn, changed, onlyEnabled, everyTurn}
 use Rattle.machine.specs.Test.{valid, kernelRefusal}
-use Rattle.machine.specs.Activation.{activateTurn, goOnTurn, resumeBy}
-use Rattle.machine.specs.Calls.{addTask, addSemaphore, addBolt, addInterrupt, declaration, namedTurn, runnerTurn, asks, changeOf, trigger, interruptBy, arrive, arrival, workBy, workOf}
-use Rattle.machine.specs.Step.{refuse, finish, declared, orRefuse, carryOut, step}
+use Rattle.machine.specs.Activation.{activateBy, continueBy, resumeBy}
+use Rattle.machine.specs.Calls.{addTask, addSemaphore, addBolt, addInterrupt, declaration, namedTurn, runnerTurn, askFor, changeOf, triggerIn, interruptBy, arrive, arrival, workBy, workOf}
+use Rattle.machine.specs.Step.{answered, finish, declared, orRefuse, carryOut, step}
 use Rattle.machine.specs.Log.{final}
 use Rattle.machine.specs.Continuing.{isRunner, touches, touchesBy, disturbs, NothingElse, undisturbed, StaysOverLists, taskAfter}
 use Rattle.machine.proofs.Filing.{taken-valid}
@@ -74,14 +74,14 @@ at-once : (kind : ℕ) → scheduled kind ≡ false → eqb kind 0 ≡ true
 at-once kind e = let l = ltb-false 0 kind e in eq-eqb kind 0 (omega arith)
 
 module _ (day clock : ℕ) (n : Instant) (h : Head) (t : Task) where
-  activate-same : SameContinuation t (activateTurn day clock n h t .task)
-  unfolding activateTurn
+  activate-same : SameContinuation t (activateBy day clock n h t .task)
+  unfolding activateBy
   activate-same = byBool (eqb (h .kind) 0) (λ e. rw e (left-alone .due _ t)) (λ e. rw e (left-alone .schedule n _ t))
 
   -- AC, TE, SU, and CO at once.
   named-same : (m : Mark) → is m PR ≡ false → (is m CO ≡ true → scheduled (h .kind) ≡ false) → sortOf m ≡ OneTask
       → SameContinuation t (namedTurn day clock n m h t .task)
-  unfolding namedTurn goOnTurn
+  unfolding namedTurn continueBy
   named-same m pr co one =
       byBool (is m AC) (λ ac. rw ac activate-same)
       (λ ac. rw ac (byBool (is m TE) (λ te. rw te (left-alone .end t))
@@ -94,8 +94,8 @@ module _ (day clock : ℕ) (n : Instant) (h : Head) (t : Task) where
   runner-same m re =
       byBool (is m RE) (λ e. rw (e, at-once (h .kind) (re e)) (left-alone .resume _ t)) (λ e. rw e (left-alone .end t))
 
-asks-same : (count : ℕ) (ts : List Task) (w : Wait) (b : Bool) (c : Call) (t : Task) (l : Locks) → SameContinuation t (asks count ts w b c t l .task)
-unfolding asks
+asks-same : (count : ℕ) (ts : List Task) (w : Wait) (b : Bool) (c : Call) (t : Task) (l : Locks) → SameContinuation t (askFor count ts w b c t l .task)
+unfolding askFor
 asks-same count ts w b c t l =
     byBool (couldBeGranted count ts l (t .current) w (named c)) (λ e. rw e (has t))
     (λ e. rw e (byBool b (λ z. rw z (has (waitFor w (c .head .len) (c .list) t))) (λ z. rw z (has t))))
@@ -151,7 +151,7 @@ module _ (day : ℕ) (k : State) (v : valid day k ≡ true) (c : Call) (p : Pass
   given-work w = one-same (runnerAt (runner k)) _ (λ z. has (taskAt (k .tasks) (runnerAt (runner k))))
 
   interrupt-work : Same (workBy day AnInterrupt k c .tasks)
-  unfolding workBy interruptBy trigger
+  unfolding workBy interruptBy triggerIn
   interrupt-work =
       byBool (is m TG)
       (λ e. rw e (byBool (enabledAt k (c .head .number))
@@ -200,7 +200,7 @@ module _ (day : ℕ) (k : State) (i : ℕ) (l : i < k .counts .tasks) where
   read-stays : valid day k ≡ true → (c : Call)
       → (eqb (orRefuse k (refusalOf day k c) (carryOut day k c) .answer .number) 0 && touches k c i) ≡ false
       → Stays (orRefuse k (refusalOf day k c) (carryOut day k c) .state)
-  unfolding refuse
+  unfolding answered
   read-stays v c = go (refusalOf day k c) refl
     where
       go : (n : ℕ) → refusalOf day k c ≡ n → (eqb (orRefuse k n (carryOut day k c) .answer .number) 0 && touches k c i) ≡ false
@@ -211,7 +211,7 @@ module _ (day : ℕ) (k : State) (i : ℕ) (l : i < k .counts .tasks) where
   -- So are bytes.
   opened-stays : valid day k ≡ true → (r : Read) (ls : List ℕ) (z : Stepped) → z ≡ stepOpened day k r ls
       → (eqb (z .answer .number) 0 && touchesBy k r ls i) ≡ false → Stays (z .state)
-  opened-stays v (Refused n) ls z q e = rw q (unfold refuse in has (taskAt (k .tasks) i))
+  opened-stays v (Refused n) ls z q e = rw q (unfold answered in has (taskAt (k .tasks) i))
   opened-stays v (Accepted h) ls z q e =
       let c = callWith h ls in
       let o = q ∙ carried-by day k c in
@@ -219,7 +219,7 @@ module _ (day : ℕ) (k : State) (i : ℕ) (l : i < k .counts .tasks) where
 
   -- A kernel turned away stays.
   away-stays : (n : ℕ) → kernelRefusal day k ≡ suc n → (s : List ℕ) → Stays (step day k s .state)
-  unfolding step refuse
+  unfolding step answered
   away-stays n v s = rw v (has (taskAt (k .tasks) i))
 
 pub nothing-else : NothingElse
@@ -233,7 +233,7 @@ nothing-else day k s i l e = go (kernelRefusal day k) refl
 
 -- A declared task stays declared.
 pub still-declared : (day : ℕ) (k : State) (i : ℕ) → i < k .counts .tasks → (s : List ℕ) → i < step day k s .state .counts .tasks
-unfolding refuse declared finish addTask addSemaphore addBolt addInterrupt
+unfolding answered declared finish addTask addSemaphore addBolt addInterrupt
 still-declared day k i l s =
     step-cases day k (λ z. i < z .state .counts .tasks) (λ v. l) (λ v m. l) (λ v n a b. l)
     (λ v c e. out-cases day k c (λ z. i < z .state .counts .tasks)

@@ -2,7 +2,7 @@
 use mathlib.Core.Path.{_≡_, refl, ap, _∙_}
 use mathlib.Core.Bool.{true}
 use mathlib.Core.List.{List, [], _∷_, _++_}
-use Prim.Native.Nat.{ℕ, zero, suc, _+_, _≤_, _<_}
+use Prim.Native.Nat.{ℕ, suc, _+_, _≤_, _<_}
 use native.Mathlib.Omega.{arith}
 use lib.ListN.{length}
 use borrow.Author.Tests.{eq-eqb, lt-ltb}
@@ -12,7 +12,7 @@ use Rattle.calendar.specs.declared.Instant.{Instant}
 use Rattle.calendar.specs.declared.Moment.the-variants.{At}
 use Rattle.layout.specs.Fields.{callOf}
 use Rattle.layout.specs.declared.Mark.the-variants.{TI}
-use Rattle.lock.proofs.Bools.{byBool}
+use Rattle.facts.proofs.Bools.{byBool}
 use Rattle.schedule.specs.Alarms.{pending, falls}
 use Rattle.schedule.specs.Coming.{nextOf}
 use Rattle.schedule.specs.declared.Alarm.{Alarm}

@@ -3,17 +3,17 @@ use mathlib.Core.Path.{refl}
 use mathlib.Core.Bool.{true, false}
 use Rattle.record.specs.Refusals.{named}
 use Rattle.lock.specs.Locks.{takeAll}
-use Rattle.lock.proofs.Bools.{byBool, contra}
+use Rattle.facts.proofs.Bools.{byBool, contra}
 use Rattle.machine.specs.State.{taskAt}
 use Rattle.machine.specs.Granting.{couldBeGranted}
 use Rattle.machine.specs.Work.{changed}
-use Rattle.machine.specs.Calls.{asks, changeOf, workBy}
+use Rattle.machine.specs.Calls.{askFor, changeOf, workBy}
 use Rattle.machine.specs.Whole.{AsksWhole}
 use Rattle.machine.proofs.Granting.{could-free}
 use Rattle.machine.proofs.Works.{onlyLocks, locks-alone}
 
 pub asks-whole : AsksWhole
-unfolding workBy changeOf asks
+unfolding workBy changeOf askFor
 asks-whole day k i w waits c r s =
     let t = taskAt (k .tasks) i in
     let b = couldBeGranted (k .counts .tasks) (k .tasks) (k .locks) (t .current) w (named c) in

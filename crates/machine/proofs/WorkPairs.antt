@@ -19,8 +19,8 @@ use Rattle.lock.specs.Locks.{giveAll}
 use Rattle.lock.specs.declared.Way.the-variants.{Take, Give}
 use Rattle.lock.specs.declared.Wait.{Wait}
 use Rattle.lock.specs.declared.Locks.{Locks}
-use Rattle.lock.proofs.Bools.{byBool, contra, both}
-use Rattle.lock.proofs.Tables.{Like, like-set, like-take, like-front}
+use Rattle.facts.proofs.Bools.{byBool, contra, both}
+use Rattle.facts.proofs.Tables.{Like, like-set, like-take, like-front}
 use Rattle.lock.proofs.Alike.{Alike, Seen, seen, move-alike}
 use Rattle.task.specs.State.{noTask, waitFor}
 use Rattle.task.specs.Turns.{unmarked}
@@ -40,8 +40,8 @@ use Rattle.machine.specs.Sets.{only}
 use Rattle.machine.specs.Sorts.{needsRunner, runnerAt}
 use Rattle.machine.specs.Work.{Work, byLocks, changed, onlyEnabled, turns, everyTurn}
 use Rattle.machine.specs.Refusals.{listDeclared, declaredBy}
-use Rattle.machine.specs.Calls.{namedTurn, runnerTurn, asks, changeOf, trigger, interruptBy, arrive, arrival, workBy}
-use Rattle.machine.specs.Activation.{alarmBy, activateTurn, goOnTurn, resumeBy}
+use Rattle.machine.specs.Calls.{namedTurn, runnerTurn, askFor, changeOf, triggerIn, interruptBy, arrive, arrival, workBy}
+use Rattle.machine.specs.Activation.{alarmBy, activateBy, continueBy, resumeBy}
 use Rattle.machine.proofs.Urgency.{Below, runner-below}
 use Rattle.machine.proofs.Passed.{Listed, Fits}
 use Rattle.machine.proofs.Looks.{next-among, could-same, runner-same}
@@ -54,13 +54,13 @@ pub record WorkPair (n : Counts) (w w′ : Work) : Type 0 where
   pub enabled : Like false mostInterrupts (n .interrupts) (w .enabled) (w′ .enabled)
   pub sets : w .sets ≡ w′ .sets
 
-no-wait-activate : (day clock : ℕ) (n : Instant) (h : Head) (t : Task) → NoNewWait t (activateTurn day clock n h t .task)
-unfolding activateTurn
+no-wait-activate : (day clock : ℕ) (n : Instant) (h : Head) (t : Task) → NoNewWait t (activateBy day clock n h t .task)
+unfolding activateBy
 no-wait-activate day clock n h t =
     byBool (eqb (h .kind) 0) (λ e. rw e (no-wait-due t _)) (λ e. rw e (no-wait-schedule t n _))
 
-no-wait-go-on : (day clock : ℕ) (n : Instant) (h : Head) (t : Task) → NoNewWait t (goOnTurn day clock n h t .task)
-unfolding goOnTurn
+no-wait-go-on : (day clock : ℕ) (n : Instant) (h : Head) (t : Task) → NoNewWait t (continueBy day clock n h t .task)
+unfolding continueBy
 no-wait-go-on day clock n h t =
     byBool (eqb (h .kind) 0) (λ e. rw e (no-wait-continue t (h .priority))) (λ e. rw e (no-wait-later t n (alarmBy day clock n h) (h .priority) false))
 
@@ -178,8 +178,8 @@ module _ (k : State) (ts : List Task) (ps : List ℕ) (r : Locks) (is : List Boo
   unfolding arrive
   arrive-pair x = every-pair _ (λ t. no-wait-tick t _) _
 
-  trigger-pair : (day i : ℕ) → i < n .interrupts → WorkPair n (trigger day k i) (trigger day k′ i)
-  unfolding trigger
+  trigger-pair : (day i : ℕ) → i < n .interrupts → WorkPair n (triggerIn day k i) (triggerIn day k′ i)
+  unfolding triggerIn
   trigger-pair day i l =
       rw (← ints .below i l)
       (byBool (enabledAt k i)
@@ -207,8 +207,8 @@ module _ (k : State) (ts : List Task) (ps : List ℕ) (r : Locks) (is : List Boo
     could i l = rw (← h .tasks .below i l) (could-same n (k .tasks) ts (h .tasks .below) (k .locks) r sees (taskAt (k .tasks) i .current) w (named c) e)
 
     ask-pair : (i : ℕ) → i < n .tasks
-        → WorkPair n (changed k i (asks (n .tasks) (k .tasks) w waits c (taskAt (k .tasks) i) (k .locks))) (changed k′ i (asks (n .tasks) ts w waits c (taskAt ts i) r))
-    unfolding asks
+        → WorkPair n (changed k i (askFor (n .tasks) (k .tasks) w waits c (taskAt (k .tasks) i) (k .locks))) (changed k′ i (askFor (n .tasks) ts w waits c (taskAt ts i) r))
+    unfolding askFor
     ask-pair i l =
         byBool (couldBeGranted (n .tasks) (k .tasks) (k .locks) (taskAt (k .tasks) i .current) w (named c))
         (λ b. rw (b, sym (could i l) ∙ b)
@@ -239,7 +239,7 @@ module _ (k : State) (ts : List Task) (ps : List ℕ) (r : Locks) (is : List Boo
       runner-pair (λ z i. oneTurn z i (runnerTurn day (k .clock) (k .now) (c .head .mark) (c .head) (taskAt (z .tasks) i)))
       (turn-pair (runnerTurn day (k .clock) (k .now) (c .head .mark) (c .head)) (no-wait-runner day (k .clock) (k .now) (c .head .mark) (c .head))) a
   work-pair day c (ListAsked w b) e a =
-      runner-pair (λ z i. changed z i (asks (n .tasks) (z .tasks) w b c (taskAt (z .tasks) i) (z .locks))) (ask-pair w b c e) a
+      runner-pair (λ z i. changed z i (askFor (n .tasks) (z .tasks) w b c (taskAt (z .tasks) i) (z .locks))) (ask-pair w b c e) a
   work-pair day c (ListGiven w) e a =
       runner-pair (λ z i. changed z i (byLocks (taskAt (z .tasks) i) (giveAll w (z .locks) (named c)) false))
       (λ i l. locks-pair i _ _ false (move-alike mostSemaphores mostBolts (n .semaphores) (n .bolts) (f .semaphores) (f .bolts) Give w (named c) (k .locks) r (h .locks))) a

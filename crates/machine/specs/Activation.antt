@@ -8,9 +8,9 @@ use Rattle.calendar.specs.declared.End.{End}
 use Rattle.calendar.specs.declared.End.the-variants.{Open, Until, During}
 use Rattle.layout.specs.declared.Head.{Head}
 use Rattle.schedule.specs.Alarms.{alarmOf}
-use Rattle.schedule.specs.Schedules.{begun}
+use Rattle.schedule.specs.Schedules.{beginWith}
 use Rattle.task.specs.Continuations.{orElse}
-use Rattle.task.specs.Turns.{dueTurn, scheduleTurn, continueTurn, resumeTurn, laterTurn, restTurn}
+use Rattle.task.specs.Turns.{dueTurn, planTurn, goOnTurn, delayTurn, goOnLaterTurn, restTurn}
 use Rattle.schedule.specs.declared.Alarm.{Alarm}
 use Rattle.schedule.specs.declared.Schedule.{Schedule}
 use Rattle.task.specs.declared.Task.{Task}
@@ -28,18 +28,18 @@ module _ (day clock : ℕ) (n : Instant) where
 
   -- The schedule that an activation at n gives a task, with the priority p.
   unfoldable pub scheduleOf : Head → ℕ → Schedule
-  scheduleOf h p = begun day clock (alarmBy h) (endOf (h .endkind) (h .endtime)) (h .period) p
+  scheduleOf h p = beginWith day clock (alarmBy h) (endOf (h .endkind) (h .endtime)) (h .period) p
 
   -- Kind 0 is due for the task; another kind replaces its schedule. Priority 0 is the declared one.
-  unfoldable pub activateTurn : Head → Task → Turn
-  activateTurn h t =
+  unfoldable pub activateBy : Head → Task → Turn
+  activateBy h t =
       let p = orElse (h .priority) (t .declared) in
-      cond (eqb (h .kind) 0) (dueTurn p t) (scheduleTurn n (scheduleOf h p) t)
+      cond (eqb (h .kind) 0) (dueTurn p t) (planTurn n (scheduleOf h p) t)
 
   -- CONTINUE: kind 0 unholds the task; another kind replaces its continuation. Priority 0 is the one current then.
-  unfoldable pub goOnTurn : Head → Task → Turn
-  goOnTurn h t = cond (eqb (h .kind) 0) (continueTurn (h .priority) t) (laterTurn n (alarmBy h) (h .priority) false t)
+  unfoldable pub continueBy : Head → Task → Turn
+  continueBy h t = cond (eqb (h .kind) 0) (goOnTurn (h .priority) t) (goOnLaterTurn n (alarmBy h) (h .priority) false t)
 
   -- RESUME: kind 0 delays the running task; another kind suspends it and replaces its continuation.
   unfoldable pub resumeBy : Head → Task → Turn
-  resumeBy h t = cond (eqb (h .kind) 0) (resumeTurn (plus n (duration (h .first))) t) (restTurn n (alarmBy h) t)
+  resumeBy h t = cond (eqb (h .kind) 0) (delayTurn (plus n (duration (h .first))) t) (restTurn n (alarmBy h) t)

@@ -3,7 +3,7 @@ use mathlib.Core.Bool.{Bool, true, false, cond}
 use mathlib.Core.List.{List}
 use Prim.Native.Nat.{ℕ, _+_}
 use lib.ListN.{set}
-use Rattle.calendar.specs.Limits.{tick as oneTick}
+use Rattle.calendar.specs.Limits.{tick}
 use Rattle.calendar.specs.Times.{duration, plus}
 use Rattle.calendar.specs.Moments.{instantOr}
 use Rattle.calendar.specs.declared.Instant.{Instant}
@@ -25,8 +25,8 @@ use Rattle.machine.specs.declared.Change.{Change}
 use Rattle.machine.specs.declared.Sort.{Sort}
 use Rattle.machine.specs.declared.Sort.the-variants.{Declaration, OneTask, TheRunner, ListAsked, ListGiven, AnInterrupt, EveryTask}
 use Rattle.machine.specs.State.{taskAt, enabledAt, freshTask, withState, withPlaces, withCounts, withClock}
-use Rattle.machine.specs.Sorts.{sortOf, placeOf}
-use Rattle.machine.specs.Activation.{activateTurn, goOnTurn, resumeBy}
+use Rattle.machine.specs.Sorts.{sortOf, taskOf}
+use Rattle.machine.specs.Activation.{activateBy, continueBy, resumeBy}
 use Rattle.machine.specs.Running.{runner}
 use Rattle.machine.specs.NextEvent.{nextEvent}
 use Rattle.machine.specs.Granting.{couldBeGranted}
@@ -79,9 +79,9 @@ module _ (day clock : ℕ) (n : Instant) where
   -- AC, TE, SU, PR and CO: the turn of the task that they name.
   unfoldable pub namedTurn : Mark → Head → Task → Turn
   namedTurn m h t =
-      cond (is m AC) (activateTurn day clock n h t)
+      cond (is m AC) (activateBy day clock n h t)
       (cond (is m TE) (endTurn t)
-      (cond (is m SU) (suspendTurn t) (cond (is m PR) (preventTurn t) (goOnTurn day clock n h t))))
+      (cond (is m SU) (suspendTurn t) (cond (is m PR) (preventTurn t) (continueBy day clock n h t))))
 
   -- EN and RE: the running task's turn.
   unfoldable pub runnerTurn : Mark → Head → Task → Turn
@@ -89,8 +89,8 @@ module _ (day clock : ℕ) (n : Instant) where
 
 module _ (count : ℕ) (ts : List Task) where
   -- The running task t asks for a list: it is granted whole, or the task waits; a TRY doesn't wait.
-  unfoldable pub asks : Wait → Bool → Call → Task → Locks → Change
-  asks w waits c t l =
+  unfoldable pub askFor : Wait → Bool → Call → Task → Locks → Change
+  askFor w waits c t l =
       cond (couldBeGranted count ts l (t .current) w (named c)) (byLocks t (takeAll w l (named c)) true)
       (cond waits (byLocks (waitFor w (c .head .len) (c .list) t) l false) (byLocks t l false))
 
@@ -99,30 +99,30 @@ module _ (count : ℕ) (ts : List Task) where
   changeOf day Declaration c clock n t l = byLocks t l false
   changeOf day OneTask c clock n t l = byTurn l (namedTurn day clock n (c .head .mark) (c .head) t)
   changeOf day TheRunner c clock n t l = byTurn l (runnerTurn day clock n (c .head .mark) (c .head) t)
-  changeOf day (ListAsked w waits) c clock n t l = asks w waits c t l
+  changeOf day (ListAsked w waits) c clock n t l = askFor w waits c t l
   changeOf day (ListGiven w) c clock n t l = byLocks t (giveAll w l (named c)) false
   changeOf day AnInterrupt c clock n t l = byLocks t l false
   changeOf day EveryTask c clock n t l = byLocks t l false
 
 abbrev pub changeIn : ℕ → Sort → State → Call → Work
 changeIn day s k c =
-    let i = placeOf s (c .head) (runner k) in
+    let i = taskOf s (c .head) (runner k) in
     changed k i (changeOf (k .counts .tasks) (k .tasks) day s c (k .clock) (k .now) (taskAt (k .tasks) i) (k .locks))
 
 -- ---- interrupts
 
 -- TRIGGER of interrupt i. A disabled one changes nothing.
-unfoldable pub trigger : ℕ → State → ℕ → Work
-trigger day k i =
+unfoldable pub triggerIn : ℕ → State → ℕ → Work
+triggerIn day k i =
     cond (enabledAt k i) (everyTurn k (k .now) (triggerTurn day (k .clock) (k .now) i)) (onlyEnabled k (k .enabled))
 
 -- ENABLE and DISABLE.
-abbrev pub enable : State → ℕ → Bool → Work
-enable k i b = onlyEnabled k (set (k .enabled) i b)
+abbrev pub enableIn : State → ℕ → Bool → Work
+enableIn k i b = onlyEnabled k (set (k .enabled) i b)
 
 -- TG, EI, XI.
 unfoldable pub interruptBy : ℕ → Mark → State → ℕ → Work
-interruptBy day m k i = cond (is m TG) (trigger day k i) (enable k i (is m EI))
+interruptBy day m k i = cond (is m TG) (triggerIn day k i) (enableIn k i (is m EI))
 
 -- ---- time
 
@@ -132,7 +132,7 @@ arrive k n = everyTurn k n (tickTurn n)
 
 -- Where TI and SL arrive: one tick later, or at the next event.
 unfoldable pub arrival : Mark → State → Instant
-arrival m k = cond (is m SL) (instantOr (k .now) (nextEvent k)) (plus (k .now) (duration oneTick))
+arrival m k = cond (is m SL) (instantOr (k .now) (nextEvent k)) (plus (k .now) (duration tick))
 
 -- ---- all sorts
 

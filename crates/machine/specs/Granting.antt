@@ -3,8 +3,8 @@ use mathlib.Core.Bool.{Bool, not, _&&_, _||_}
 use mathlib.Core.List.{List}
 use Prim.Native.Nat.{ℕ}
 use lib.Dec.{leb}
-use Rattle.lists.specs.Lists.{names}
-use Rattle.lock.specs.Locks.{waiting, sameKind, free, every}
+use Rattle.lists.specs.Lists.{names, every}
+use Rattle.lock.specs.Locks.{waiting, sameKind, isFree}
 use Rattle.lock.specs.declared.Wait.{Wait}
 use Rattle.lock.specs.declared.Wait.the-variants.{Reserve, Enter}
 use Rattle.lock.specs.declared.Locks.{Locks}
@@ -24,7 +24,7 @@ unopposed n ts q x = allBelow n (λ i. not (goesBefore q x (taskAt ts i)))
 -- Number x of the kind w is there for one who asks at priority q, with n tasks declared: free, and for an ENTER no
 -- writer goes before.
 unfoldable pub available : ℕ → List Task → Locks → ℕ → Wait → ℕ → Bool
-available n ts r q w x = free w r x && (not (sameKind w Enter) || unopposed n ts q x)
+available n ts r q w x = isFree w r x && (not (sameKind w Enter) || unopposed n ts q x)
 
 -- A list of the kind w, asked for at priority q, could be granted: all of it is there.
 unfoldable pub couldBeGranted : ℕ → List Task → Locks → ℕ → Wait → List ℕ → Bool

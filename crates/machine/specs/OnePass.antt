@@ -8,8 +8,7 @@ use lib.ListN.{length}
 use lib.Dec.{ltb}
 use Rattle.layout.specs.Fields.{Octets}
 use Rattle.layout.specs.declared.Call.{Call}
-use Rattle.lists.specs.Lists.{names}
-use Rattle.lock.specs.Locks.{every}
+use Rattle.lists.specs.Lists.{names, every}
 use Rattle.lock.specs.declared.Wait.the-variants.{Reserve}
 use Rattle.task.specs.State.{wanted}
 use Rattle.task.specs.declared.Task.{Task}

@@ -5,9 +5,9 @@ use mathlib.Core.Bool.{Bool, true, false, not, _&&_}
 use mathlib.Core.List.{List, map}
 use Prim.Native.Nat.{ℕ, _≤_, _<_}
 use lib.ListN.{length}
-use Rattle.layout.specs.Fields.{bytesOf}
+use Rattle.layout.specs.Fields.{bytesOf, mostNumbers}
 use Rattle.layout.specs.declared.Call.{Call}
-use Rattle.record.specs.Refusals.{mostNumbers, unless, before, shape}
+use Rattle.record.specs.Refusals.{unless, firstRefusal, shape}
 use Rattle.record.specs.Reading.{accepted, callWith, opened, reading}
 use Rattle.record.specs.Writing.{written}
 use Rattle.record.specs.declared.Read.{Read}
@@ -27,7 +27,7 @@ use Rattle.machine.specs.Serving.{Served, nextServed}
 use Rattle.machine.specs.Test.{valid, kernelRefusal}
 use Rattle.machine.specs.Sorts.{declares}
 use Rattle.machine.specs.Refusals.{declaredIn}
-use Rattle.machine.specs.Step.{plainAnswer, refuse, carry, step}
+use Rattle.machine.specs.Step.{plainAnswer, answered, carry, step}
 use Rattle.machine.specs.Log.{final, log}
 
 -- ---- the most urgent task. Proved in proofs/Urgency.antt.
@@ -171,27 +171,27 @@ abbrev pub numberFor : State → Read → List ℕ → ℕ
 numberFor k (Refused n) l = 2
 numberFor k (Accepted h) l =
     unless (not (k .begun && declares (h .mark))) 2
-    (before (shape (callWith h l)) (unless (declaredIn (h .mark) (k .counts) (callWith h l)) 5 6))
+    (firstRefusal (shape (callWith h l)) (unless (declaredIn (h .mark) (k .counts) (callWith h l)) 5 6))
 
 -- What the reader refuses, the step refuses.
 abbrev pub RefusedByReader : Type 0
 RefusedByReader =
     (day : ℕ) (k : State) (s : List ℕ) (n : ℕ) → kernelRefusal day k ≡ 0 → reading day s .answer ≡ Refused n
-    → step day k s ≡ refuse k (numberFor k (opened s .answer) (opened s .list)) (runner k)
+    → step day k s ≡ answered k (numberFor k (opened s .answer) (opened s .list)) (runner k)
 
 -- Where the two numbers part, for bytes that open to c.
 pub record Order (day : ℕ) (k : State) (s : List ℕ) (c : Call) : Type 0 where
   -- a declaration after an accepted call is 2, whatever the reader says
-  pub late : k .begun ≡ true → declares (c .head .mark) ≡ true → step day k s ≡ refuse k 2 (runner k)
+  pub late : k .begun ≡ true → declares (c .head .mark) ≡ true → step day k s ≡ answered k 2 (runner k)
   -- else the reader's 3 and 4 stay
   pub shaped : (n : ℕ) → (k .begun && declares (c .head .mark)) ≡ false → reading day s .answer ≡ Refused n → n ≢ 6
-      → step day k s ≡ refuse k n (runner k)
+      → step day k s ≡ answered k n (runner k)
   -- its 6 is 5 where something named isn't declared
   pub unknown : reading day s .answer ≡ Refused 6 → declaredIn (c .head .mark) (k .counts) c ≡ false
-      → step day k s ≡ refuse k 5 (runner k)
+      → step day k s ≡ answered k 5 (runner k)
   -- and stays where all is declared
   pub timed : (k .begun && declares (c .head .mark)) ≡ false → reading day s .answer ≡ Refused 6
-      → declaredIn (c .head .mark) (k .counts) c ≡ true → step day k s ≡ refuse k 6 (runner k)
+      → declaredIn (c .head .mark) (k .counts) c ≡ true → step day k s ≡ answered k 6 (runner k)
 
 abbrev pub RefusalsInOrder : Type 0
 RefusalsInOrder =

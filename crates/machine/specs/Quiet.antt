@@ -5,7 +5,7 @@ use Prim.Native.Nat.{ℕ, zero, suc, _+_, _<_, _≤_}
 use lib.ListN.{length}
 use Rattle.calendar.specs.Limits.{lastInstant}
 use Rattle.calendar.specs.Times.{instant, duration, plus}
-use Rattle.calendar.specs.Moments.{before}
+use Rattle.calendar.specs.Moments.{earlierThan}
 use Rattle.calendar.specs.declared.Instant.{Instant}
 use Rattle.calendar.specs.declared.Moment.{Moment}
 use Rattle.calendar.specs.declared.Moment.the-variants.{At}
@@ -32,7 +32,7 @@ Comes n k = (i : ℕ) × (i < k .counts .tasks) × (comes n (taskAt (k .tasks) i
 
 -- m is the next event: nothing comes before it, ever if it is none, and something at it, which is later than now.
 pub record IsNextEvent (k : State) (m : Moment) : Type 0 where
-  pub quiet : (d : ℕ) → before (plus (k .now) (duration d)) m ≡ true → Quiet d k
+  pub quiet : (d : ℕ) → earlierThan (plus (k .now) (duration d)) m ≡ true → Quiet d k
   pub later : (n : Instant) → m ≡ At n → k .now .0 < n .0
   pub comes : (n : Instant) → m ≡ At n → Comes n k
 
@@ -67,5 +67,5 @@ TicksAreQuiet =
 abbrev pub QuietUpToNext : Type 0
 QuietUpToNext =
     (day d : ℕ) (k : State) → length (k .tasks) ≡ mostTasks → kernelRefusal day k ≡ 0
-    → before (plus (k .now) (duration d)) (nextEvent k) ≡ true → k .now .0 + d ≤ lastInstant
+    → earlierThan (plus (k .now) (duration d)) (nextEvent k) ≡ true → k .now .0 + d ≤ lastInstant
     → QuietTicks day d k × (nextEvent (later d k) ≡ nextEvent k)

@@ -8,7 +8,7 @@ use Rattle.calendar.specs.Moments.{comesBy}
 use Rattle.calendar.specs.declared.Instant.{Instant}
 use Rattle.calendar.specs.declared.Moment.{Moment}
 use Rattle.layout.specs.Marks.{is}
-use Rattle.record.specs.Refusals.{onInterrupt, named, unless, before, shape, times}
+use Rattle.record.specs.Refusals.{onInterrupt, named, unless, firstRefusal, shape, times}
 use Rattle.record.specs.Reading.{callWith, opened, orRefused, numberOf}
 use Rattle.record.specs.declared.Read.{Read}
 use Rattle.record.specs.declared.Read.the-variants.{Refused, Accepted}
@@ -17,7 +17,7 @@ use Rattle.layout.specs.declared.Mark.{Mark}
 use Rattle.layout.specs.declared.Mark.the-variants.{DT, DS, DB, IT, AC, TE, SU, CO, TI, SL}
 use Rattle.layout.specs.declared.Call.{Call}
 use Rattle.layout.specs.declared.Head.{Head}
-use Rattle.lock.specs.Locks.{waiting, every, taken}
+use Rattle.lock.specs.Locks.{waiting, returnable}
 use Rattle.lock.specs.declared.Wait.{Wait}
 use Rattle.lock.specs.declared.Wait.the-variants.{Nothing, Request, Reserve, Enter}
 use Rattle.lock.specs.declared.Locks.{Locks}
@@ -31,7 +31,8 @@ use Rattle.machine.specs.declared.Sort.the-variants.{Declaration, OneTas
 use Rattle.machine.specs.State.{mostTasks, mostSemaphores, mostBolts, mostInterrupts, taskAt, countOf}
 use Rattle.machine.specs.Running.{runner, someone}
 use Rattle.machine.specs.NextEvent.{nextEvent}
-use Rattle.machine.specs.Sorts.{sortOf, declares, needsRunner, givenKind, placeOf}
+use Rattle.machine.specs.Sorts.{sortOf, declares, needsRunner, givenKind, taskOf}
+use Rattle.lists.specs.Lists.{every}
 
 -- ---- 2, 5 and 7: what the counts and the first accepted call decide
 
@@ -68,9 +69,9 @@ roomFor m n =
 unfoldable pub formalRefusal : ℕ → Counts → Bool → Call → ℕ
 formalRefusal day n begun c =
     unless (not (begun && declares (c .head .mark))) 2
-    (before (shape c)
+    (firstRefusal (shape c)
     (unless (declaredIn (c .head .mark) n c) 5
-    (before (times day (c .head)) (unless (roomFor (c .head .mark) n) 7 0))))
+    (firstRefusal (times day (c .head)) (unless (roomFor (c .head .mark) n) 7 0))))
 
 -- A reading that none of them refuses stays as it is.
 unfoldable pub admittedIf : ℕ → Counts → Bool → Read → Reading → Reading
@@ -108,10 +109,10 @@ refusalBy m c r t l n e =
     (unless (not (is m TE || is m SU || isContinue m (c .head)) || t .alive) 10
     (unless (not (is m SU) || not (suspended (t .hold))) 11
     (unless (not (isContinue m (c .head)) || not (unheld (t .hold))) 12
-    (unless (not (waiting w) || every (taken w l) (named c)) (unreturnable w)
+    (unless (not (waiting w) || every (returnable w l) (named c)) (unreturnable w)
     (unless (not (is m TI) || ltb (n .0) lastInstant) 15
     (unless (not (is m SL) || comesBy lastInstant e) 17 0)))))))
 
 abbrev pub stateRefusal : Mark → State → Call → ℕ
 stateRefusal m k c =
-    refusalBy m c (runner k) (taskAt (k .tasks) (placeOf (sortOf m) (c .head) (runner k))) (k .locks) (k .now) (nextEvent k)
+    refusalBy m c (runner k) (taskAt (k .tasks) (taskOf (sortOf m) (c .head) (runner k))) (k .locks) (k .now) (nextEvent k)

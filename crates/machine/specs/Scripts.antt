@@ -17,8 +17,8 @@ hours h = h * hour
 -- ---- without a start
 
 -- Number, priority, list and first time of a record; the rest is zero.
-abbrev pub plain : Mark → ℕ → ℕ → List ℕ → ℕ → List ℕ
-plain m n p l t =
+abbrev pub plainRecord : Mark → ℕ → ℕ → List ℕ → ℕ → List ℕ
+plainRecord m n p l t =
     bytesOf
     (record {
       head =
@@ -39,74 +39,74 @@ plain m n p l t =
 
 -- Its priority.
 abbrev pub declareTask : ℕ → List ℕ
-declareTask p = plain DT 0 p [] 0
+declareTask p = plainRecord DT 0 p [] 0
 
 -- Its preset.
 abbrev pub declareSemaphore : ℕ → List ℕ
-declareSemaphore v = plain DS 0 0 [] v
+declareSemaphore v = plainRecord DS 0 0 [] v
 
 abbrev pub declareBolt : List ℕ
-declareBolt = plain DB 0 0 [] 0
+declareBolt = plainRecord DB 0 0 [] 0
 
 abbrev pub declareInterrupt : List ℕ
-declareInterrupt = plain IT 0 0 [] 0
+declareInterrupt = plainRecord IT 0 0 [] 0
 
 -- The time of day at instant 0.
 abbrev pub declareClock : ℕ → List ℕ
-declareClock t = plain DC 0 0 [] t
+declareClock t = plainRecord DC 0 0 [] t
 
 abbrev pub activate : ℕ → List ℕ
-activate i = plain AC i 0 [] 0
+activate i = plainRecord AC i 0 [] 0
 
 abbrev pub terminate : ℕ → List ℕ
-terminate i = plain TE i 0 [] 0
+terminate i = plainRecord TE i 0 [] 0
 
 abbrev pub suspend : ℕ → List ℕ
-suspend i = plain SU i 0 [] 0
+suspend i = plainRecord SU i 0 [] 0
 
 abbrev pub prevent : ℕ → List ℕ
-prevent i = plain PR i 0 [] 0
+prevent i = plainRecord PR i 0 [] 0
 
 -- The running task ends.
 abbrev pub end : List ℕ
-end = plain EN 0 0 [] 0
+end = plainRecord EN 0 0 [] 0
 
 abbrev pub resumeAfter : ℕ → List ℕ
-resumeAfter d = plain RE 0 0 [] d
+resumeAfter d = plainRecord RE 0 0 [] d
 
 abbrev pub request : List ℕ → List ℕ
-request l = plain RQ 0 0 l 0
+request l = plainRecord RQ 0 0 l 0
 
 abbrev pub release : List ℕ → List ℕ
-release l = plain RL 0 0 l 0
+release l = plainRecord RL 0 0 l 0
 
 abbrev pub try : ℕ → List ℕ
-try s = plain TR 0 0 (s ∷ []) 0
+try s = plainRecord TR 0 0 (s ∷ []) 0
 
 abbrev pub reserve : List ℕ → List ℕ
-reserve l = plain RS 0 0 l 0
+reserve l = plainRecord RS 0 0 l 0
 
 abbrev pub free : List ℕ → List ℕ
-free l = plain FR 0 0 l 0
+free l = plainRecord FR 0 0 l 0
 
 abbrev pub enter : List ℕ → List ℕ
-enter l = plain ET 0 0 l 0
+enter l = plainRecord ET 0 0 l 0
 
 abbrev pub leave : List ℕ → List ℕ
-leave l = plain LV 0 0 l 0
+leave l = plainRecord LV 0 0 l 0
 
 abbrev pub enable : ℕ → List ℕ
-enable i = plain EI i 0 [] 0
+enable i = plainRecord EI i 0 [] 0
 
 abbrev pub trigger : ℕ → List ℕ
-trigger i = plain TG i 0 [] 0
+trigger i = plainRecord TG i 0 [] 0
 
 abbrev pub oneTick : List ℕ
-oneTick = plain TI 0 0 [] 0
+oneTick = plainRecord TI 0 0 [] 0
 
 -- To the next event.
 abbrev pub sleep : List ℕ
-sleep = plain SL 0 0 [] 0
+sleep = plainRecord SL 0 0 [] 0
 
 -- ---- with a start
 

@@ -11,7 +11,7 @@ use Rattle.machine.specs.declared.State.{State}
 use Rattle.machine.specs.State.{mostTasks}
 use Rattle.machine.specs.Running.{runner}
 use Rattle.machine.specs.Test.{kernelRefusal}
-use Rattle.machine.specs.Step.{refuse, step}
+use Rattle.machine.specs.Step.{answered, step}
 use Rattle.machine.specs.Log.{final}
 use Rattle.machine.specs.Scripts.{row, oneTick, sleep}
 use Rattle.machine.specs.Quiet.{IsNextEvent, QuietTicks}
@@ -50,4 +50,4 @@ SleepIsTicks =
 abbrev pub SleepIsRefused : Type 0
 SleepIsRefused =
     (day : ℕ) (k : State) → kernelRefusal day k ≡ 0 → comesBy lastInstant (k .file .next) ≡ false
-    → step day k sleep ≡ refuse k 17 (runner k)
+    → step day k sleep ≡ answered k 17 (runner k)

@@ -107,5 +107,5 @@ naming AnInterrupt = false
 naming EveryTask = false
 
 -- The task that a call names, else the running one.
-abbrev pub placeOf : Sort → Head → Running → ℕ
-placeOf s h r = cond (naming s) (h .number) (runnerAt r)
+abbrev pub taskOf : Sort → Head → Running → ℕ
+taskOf s h r = cond (naming s) (h .number) (runnerAt r)

@@ -1,11 +1,12 @@
 -- What a kernel holds (document 01), and the kernel with one part changed.
 use mathlib.Core.Bool.{Bool, true, false}
-use mathlib.Core.List.{List, [], _∷_}
+use mathlib.Core.List.{List}
 use Prim.Native.Nat.{ℕ}
 use lib.ListN.{getD, replicate}
 use Rattle.calendar.specs.Times.{instant}
 use Rattle.calendar.specs.declared.Instant.{Instant}
 use Rattle.calendar.specs.declared.Moment.the-variants.{Never}
+use Rattle.layout.specs.Fields.{noList}
 use Rattle.lock.specs.Locks.{mostLocks, emptyBolt}
 use Rattle.lock.specs.declared.Wait.{Wait}
 use Rattle.lock.specs.declared.Wait.the-variants.{Nothing, Request, Reserve, Enter}
@@ -66,7 +67,7 @@ freshTask p =
       kept = Empty;
       wait = Nothing;
       len = 0;
-      list = 0 ∷ 0 ∷ 0 ∷ 0 ∷ [];
+      list = noList;
       given = 0;
       resumed = false;
       hold = Unheld;

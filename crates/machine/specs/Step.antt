@@ -28,8 +28,8 @@ abbrev pub plainAnswer : ℕ → Running → Answer
 plainAnswer n r = record { number = n; running = r; sets = noSets }
 
 -- A refusal leaves the kernel as it was.
-unfoldable pub refuse : State → ℕ → Running → Stepped
-refuse k n r = record { state = k; answer = plainAnswer n r }
+unfoldable pub answered : State → ℕ → Running → Stepped
+answered k n r = record { state = k; answer = plainAnswer n r }
 
 -- Every accepted call ends so: the waiting tasks are served, those with an event go to the end of the order, and the
 -- running task and the next event are found and put on file.
@@ -50,12 +50,12 @@ declared k d = record { state = withFile (fileOf k) d; answer = plainAnswer 0 (r
 
 abbrev pub orRefuse : State → ℕ → Stepped → Stepped
 orRefuse k zero s = s
-orRefuse k (suc n) s = refuse k (suc n) (runner k)
+orRefuse k (suc n) s = answered k (suc n) (runner k)
 
 -- Refusals 1 and 16: no task runs.
 abbrev pub orTurnAway : State → ℕ → Stepped → Stepped
 orTurnAway k zero s = s
-orTurnAway k (suc n) s = refuse k (suc n) Idle
+orTurnAway k (suc n) s = answered k (suc n) Idle
 
 module _ (day : ℕ) where
   -- An accepted declaration or call.
@@ -80,7 +80,7 @@ module _ (day : ℕ) where
   carry k c = let s = carryOn k c in tested k s
 
   abbrev pub stepRead : State → Read → List ℕ → Stepped
-  stepRead k (Refused n) l = refuse k n (runner k)
+  stepRead k (Refused n) l = answered k n (runner k)
   stepRead k (Accepted h) l = settle k (callWith h l)
 
   -- The machine over bytes.

@@ -10,9 +10,9 @@ use Rattle.calendar.specs.declared.End.{End}
 use Rattle.calendar.specs.declared.End.the-variants.{Open, Until, During}
 use Rattle.calendar.specs.declared.Moment.{Moment}
 use Rattle.calendar.specs.declared.Moment.the-variants.{Never, At}
-use Rattle.lists.specs.Lists.{distinct}
-use Rattle.record.specs.Refusals.{mostValue, mostNumbers, unless}
-use Rattle.lock.specs.Locks.{waiting, every, valueAt, boltAt}
+use Rattle.lists.specs.Lists.{distinct, every}
+use Rattle.record.specs.Refusals.{mostValue, unless}
+use Rattle.lock.specs.Locks.{waiting, valueAt, boltAt}
 use Rattle.schedule.specs.Alarms.{planned, pending, listening}
 use Rattle.schedule.specs.declared.Alarm.{Alarm}
 use Rattle.schedule.specs.declared.Schedule.{Schedule}
@@ -30,6 +30,7 @@ use Rattle.machine.specs.State.{mostTasks, mostSemaphores, mostBolts, mo
 use Rattle.machine.specs.Running.{sameRunning}
 use Rattle.machine.specs.NextEvent.{fileOf}
 use Rattle.machine.specs.Granting.{servable}
+use Rattle.layout.specs.Fields.{mostNumbers}
 
 -- ---- limits
 

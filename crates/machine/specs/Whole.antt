@@ -7,7 +7,7 @@ use Prim.Native.Nat.{ℕ, _<_, _^_}
 use lib.ListN.{set}
 use Rattle.layout.specs.declared.Call.{Call}
 use Rattle.record.specs.Refusals.{named}
-use Rattle.lock.specs.Locks.{grantable, takeAll}
+use Rattle.lock.specs.Locks.{allFree, takeAll}
 use Rattle.lock.specs.declared.Wait.{Wait}
 use Rattle.task.specs.State.{wanted, waitFor, waitOver}
 use Rattle.machine.specs.declared.State.{State}
@@ -27,7 +27,7 @@ use Rattle.machine.specs.Promises.{First, AreBytes}
 
 -- The list could be granted: all of it is free, all of it is taken, and the runner i is granted.
 pub record Taken (k : State) (i : ℕ) (w : Wait) (c : Call) (a : Work) : Type 0 where
-  pub free : grantable w (k .locks) (named c) ≡ true
+  pub free : allFree w (k .locks) (named c) ≡ true
   pub locks : a .locks ≡ takeAll w (k .locks) (named c)
   pub granted : a .sets .granted ≡ 2 ^ i
   pub tasks : a .tasks ≡ k .tasks
@@ -56,7 +56,7 @@ AsksWhole =
 -- Task i is granted the list that it waits on: all of it is free, all of it is taken, the wait is over, and no other
 -- task changes.
 pub record Grants (i : ℕ) (p q : Served) : Type 0 where
-  pub free : grantable (taskAt (p .tasks) i .wait) (p .locks) (wanted (taskAt (p .tasks) i)) ≡ true
+  pub free : allFree (taskAt (p .tasks) i .wait) (p .locks) (wanted (taskAt (p .tasks) i)) ≡ true
   pub locks : q .locks ≡ takeAll (taskAt (p .tasks) i .wait) (p .locks) (wanted (taskAt (p .tasks) i))
   pub over : taskAt (q .tasks) i ≡ waitOver (taskAt (p .tasks) i)
   pub others : (j : ℕ) → j ≢ i → taskAt (q .tasks) j ≡ taskAt (p .tasks) j

@@ -2,13 +2,10 @@
 use mathlib.Core.List.{List, [], _∷_}
 use Prim.Native.Nat.{ℕ}
 use Rattle.layout.specs.declared.Call.{Call}
+use Rattle.layout.specs.Fields.{noList}
 use Rattle.layout.specs.declared.Mark.{Mark}
 use Rattle.layout.specs.declared.Mark.the-variants.{DT, DS, DB, IT, DC, AC, TE, SU, PR, CO, EN, RE, RQ, RL, TR, RS, FR, ET, LV, TG, EI, XI, TI, SL}
 use Rattle.pearl.specs.declared.StartCondition.{StartCondition}
-
--- No number in any of the four places of a list.
-abbrev pub noList : List ℕ
-noList = 0 ∷ 0 ∷ 0 ∷ 0 ∷ []
 
 -- One number, in the first place.
 abbrev pub oneNumber : ℕ → List ℕ

@@ -5,13 +5,11 @@ use crate::StartCondition;
 use layout::Call;
 use layout::Head;
 use layout::Mark;
+use layout::NO_LIST;
 use layout::Numbers;
 
-// The list of a call that takes none.
-pub(crate) const NO_LIST: Numbers = [0, 0, 0, 0];
-
 // The call with these fields, the others 0.
-pub(crate) fn plain(
+pub(crate) fn plain_call(
     mark: Mark,
     number: u8,
     priority: u8,
@@ -37,7 +35,7 @@ pub(crate) fn plain(
 }
 
 // The call with this mark, task, priority and start condition, and no list.
-pub(crate) fn starting(mark: Mark, task: u8, priority: u8, start: StartCondition) -> Call
+pub(crate) fn start_call(mark: Mark, task: u8, priority: u8, start: StartCondition) -> Call
     ensures { λ r. ⌜ r ≡ startCall mark task priority start ⌝ }
 {
     let head = Head {

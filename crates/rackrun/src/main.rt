@@ -3,7 +3,7 @@ ghost use mathlib.Core.Path.{_≡_};
 ghost use mathlib.Core.Bool.{true};
 ghost use Prim.Native.Nat.{_≤_};
 ghost use lib.ListN.{length};
-ghost use Rattle.calendar.specs.Limits.{day};
+ghost use Rattle.calendar.specs.Limits.{dayLength};
 ghost use Rattle.machine.specs.Log.{final};
 ghost use Rattle.lines.specs.Lines.{longestLine};
 ghost use Rattle.script.specs.Records.{records};
@@ -24,7 +24,7 @@ struct Progress {
 // Carries the records of bytes out and writes their lines, a buffer full at a time.
 fn carry(script: Script, bytes: &[u8], out: &mut [u8]) -> Progress
     requires { ⌜ longestLine ≤ length (now out) ⌝ }
-    ensures { λ r. ⌜ (r .ok ≡ true → r .script ≡ goingOn (final day (script .kernel .state) (records (now (bytes .entry))))) ⌝ }
+    ensures { λ r. ⌜ (r .ok ≡ true → r .script ≡ goingOn (final dayLength (script .kernel .state) (records (now (bytes .entry))))) ⌝ }
 {
     let mut now = script;
     let mut at = 0;

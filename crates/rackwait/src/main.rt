@@ -3,7 +3,7 @@
 ghost use mathlib.Core.Path.{_≡_};
 ghost use Prim.Native.Nat.{_≤_};
 ghost use lib.ListN.{length};
-ghost use Rattle.calendar.specs.Limits.{day};
+ghost use Rattle.calendar.specs.Limits.{dayLength};
 ghost use Rattle.machine.specs.Log.{final};
 ghost use Rattle.lines.specs.Lines.{longestLine};
 ghost use Rattle.script.specs.Records.{records};
@@ -19,7 +19,7 @@ use wait_lines::text_at;
 // Carries the records of bytes out. The lines of their answers are left in the buffer and not printed.
 fn carry(script: Script, bytes: &[u8], out: &mut [u8]) -> Script
     requires { ⌜ longestLine ≤ length (now out) ⌝ }
-    ensures { λ r. ⌜ r ≡ goingOn (final day (script .kernel .state) (records (now (bytes .entry)))) ⌝ }
+    ensures { λ r. ⌜ r ≡ goingOn (final dayLength (script .kernel .state) (records (now (bytes .entry)))) ⌝ }
 {
     let mut now = script;
     let mut at = 0;

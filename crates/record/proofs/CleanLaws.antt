@@ -9,9 +9,10 @@ use lib.Dec.{leb, ltb, eqb}
 use lib.ListN.{length, drop, length-drop}
 use lib.Seq.{take-all}
 use Rattle.lists.specs.Lists.{stretch, allZero}
-use Rattle.record.specs.Refusals.{mostNumbers, lastKind, lastPlainKind, lastEndKind, onInterrupt, atTime, afterDuration, plain, start, going}
+use Rattle.record.specs.Refusals.{lastKind, lastPlainKind, lastEndKind, onInterrupt, atTime, afterDuration, plainUse, start, going}
 use Rattle.record.specs.Stretches.{startBytes, usedStart, usedBytes, grown, stretches, unused, zeroIn}
 use Rattle.record.proofs.StretchLaws.{one, two, usedOrZero, zero-in, zero-run}
+use Rattle.layout.specs.Fields.{mostNumbers}
 
 module _ (s : List ℕ) where
   abbrev zeroes : ℕ → ℕ → Bool
@@ -156,7 +157,7 @@ module _ (s : List ℕ) where
       four (suc (suc (suc zero))) n0 n1 n2 n3 h = absurd (n3 refl)
       four (suc (suc (suc (suc n)))) n0 n1 n2 n3 h = omega arith
 
-    pub with-list : (n : ℕ) → n ≤ mostNumbers → (zeroes 2 4 && allZero (drop (5 + n) s)) ≡ zeroIn s (unused (plain false false true false) n)
+    pub with-list : (n : ℕ) → n ≤ mostNumbers → (zeroes 2 4 && allZero (drop (5 + n) s)) ≡ zeroIn s (unused (plainUse false false true false) n)
     unfolding usedBytes stretches grown
     with-list zero h = rw (sym (past 5)) (two s 2 2 5 19)
     with-list (suc zero) h = rw (sym (past 6)) (two s 2 2 6 18)

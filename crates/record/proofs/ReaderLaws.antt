@@ -7,14 +7,14 @@ use Rattle.layout.specs.declared.Call.{Call}
 use Rattle.record.specs.declared.Read.{Read}
 use Rattle.record.specs.declared.Read.the-variants.{Refused, Accepted}
 use Rattle.record.specs.declared.Reading.{Reading}
-use Rattle.record.specs.Refusals.{before, shape, times, refusal}
+use Rattle.record.specs.Refusals.{firstRefusal, shape, times, refusal}
 use Rattle.record.specs.Reading.{callWith, refused, orRefused, judged, opened, reading}
 use Rattle.record.proofs.OpenedLaws.{taken}
 use Rattle.record.proofs.ShapeLaws.{FieldsOf}
 
-pub before-some : (n r : ℕ) → (n ≡ 0 → ⊥) → n ≡ before n r
-before-some zero r ne = absurd (ne refl)
-before-some (suc n) r ne = refl
+pub first-kept : (n r : ℕ) → (n ≡ 0 → ⊥) → n ≡ firstRefusal n r
+first-kept zero r ne = absurd (ne refl)
+first-kept (suc n) r ne = refl
 
 or-some : (n : ℕ) (r : Reading) → (n ≡ 0 → ⊥) → refused n ≡ orRefused n r
 or-some zero r ne = absurd (ne refl)
@@ -27,7 +27,7 @@ module _ (day : ℕ) (c : Call) {n : ℕ} (e : n ≡ shape c) where
 
   pub shape-some : (n ≡ 0 → ⊥) → n ≡ refusal day c
   unfolding refusal
-  shape-some ne = rw (← e) (before-some n (times day (c .head)) ne)
+  shape-some ne = rw (← e) (first-kept n (times day (c .head)) ne)
 
 judged-accepted : (day : ℕ) (a : Read) (r : Reading) {h : Head} → a ≡ Accepted h → judged day a r ≡ orRefused (refusal day (callWith h (r .list))) r
 unfolding judged

@@ -15,12 +15,12 @@ use Rattle.layout.specs.declared.Call.{Call}
 use Rattle.layout.specs.declared.Form.{Form}
 use Rattle.layout.specs.declared.Form.the-variants.{Bare, Number, Continuation, DeclaredPriority, Preset, TimeOfDay, Resumption, Activation, Numbers, OneNumber}
 use Rattle.layout.specs.Marks.{form}
-use Rattle.layout.specs.Fields.{recordLength, headOf, listOf, callOf}
+use Rattle.layout.specs.Fields.{recordLength, headOf, listOf, callOf, mostNumbers}
 use Rattle.lists.specs.Lists.{allZero, stretch}
 use Rattle.record.specs.Stretches.{usedBytes, grown, stretches, unused, zeroIn}
 use Rattle.record.specs.Reading.{callWith}
-use Rattle.record.specs.Refusals.{mostValue, mostNumbers, Used, orZero, cleanNames, cleanStart, ranged, uses, formedAs, formed, listed}
-use Rattle.layout.proofs.Tests.{both}
+use Rattle.record.specs.Refusals.{mostValue, Used, orZero, cleanNames, cleanStart, ranged, uses, formedAs, formed, listed}
+use Rattle.facts.proofs.Bools.{both}
 use Rattle.record.proofs.StretchLaws.{one, two}
 use Rattle.record.proofs.UnusedLaws.{stretches-are-the-fields}
 use Rattle.layout.proofs.Form as FormT

@@ -13,7 +13,7 @@ use Rattle.layout.specs.declared.Call.{Call}
 use Rattle.layout.specs.Marks.{form}
 use Rattle.layout.specs.Fields.{recordLength, headOf, callOf, bytesOf}
 use Rattle.lists.specs.Lists.{names}
-use Rattle.record.specs.Refusals.{formed, listed, timed, unless, before, shape, times, refusal}
+use Rattle.record.specs.Refusals.{formed, listed, timed, unless, firstRefusal, shape, times, refusal}
 use Rattle.record.specs.Reading.{numberOf, refused, accepted, callWith, opened, orRefused, judged, reading}
 use Rattle.record.specs.Writing.{orZeros, written}
 use Rattle.record.specs.Promises.{WrittenReadsBack, ReadWritesBack, WriterRefusesAsReader, RefusedWritesZeros, NoRecord, TwoIsNoRecord, RecordIsJudged, ReaderNumbers, StretchesAreUnused, StretchesStandApart}
@@ -83,7 +83,7 @@ refused-writes-zeros day c n e = by (refusal day c) e where
 refusal-cases : (P : ℕ → Type 0) → P 0 → P 3 → P 4 → P 6 → (day : ℕ) (c : Call) → P (refusal day c)
 unfolding refusal shape times
 refusal-cases P none three four six day c = by (formed c) (listed (form (c .head .mark)) c) (timed day (form (c .head .mark)) (c .head)) where
-  by : (f l t : Bool) → P (before (unless f 3 (unless l 4 0)) (unless t 6 0))
+  by : (f l t : Bool) → P (firstRefusal (unless f 3 (unless l 4 0)) (unless t 6 0))
   by false l t = three
   by true false t = four
   by true true false = six

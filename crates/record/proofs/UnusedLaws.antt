@@ -15,7 +15,7 @@ use Rattle.layout.specs.Fields.{byte, word, headOf, listOf, callOf}
 use Rattle.lists.specs.Lists.{allZero}
 use Rattle.lists.proofs.ZeroLaws.{low-high}
 use Rattle.record.specs.Refusals.{Used, orZero, cleanNames, cleanStart}
-use Rattle.record.specs.Stretches.{usedNames, usedStart, usedBytes, unused}
+use Rattle.record.specs.Stretches.{usedNames, usedStart, usedBytes}
 use Rattle.record.specs.Promises.{StretchesAreTheFields}
 use Rattle.record.proofs.StretchLaws.{usedOrZero, zero-in}
 

@@ -12,7 +12,7 @@ use Rattle.record.specs.declared.Read.{Read}
 use Rattle.record.specs.declared.Read.the-variants.{Refused, Accepted}
 use Rattle.record.specs.declared.Reading.{Reading}
 use Rattle.layout.specs.Marks.{markOf}
-use Rattle.layout.specs.Fields.{recordLength, letters, callOf}
+use Rattle.layout.specs.Fields.{recordLength, letters, callOf, noList}
 use Rattle.record.specs.Refusals.{refusal}
 
 -- The number of a reader's answer: 0, or the refusal's.
@@ -22,7 +22,7 @@ numberOf (Accepted h) = 0
 
 -- A refusal hands back a list of zeros.
 abbrev pub refused : ℕ → Reading
-refused n = record { answer = Refused n; list = 0 ∷ 0 ∷ 0 ∷ 0 ∷ [] }
+refused n = record { answer = Refused n; list = noList }
 
 abbrev pub accepted : Call → Reading
 accepted c = record { answer = Accepted (c .head); list = c .list }

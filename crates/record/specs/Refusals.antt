@@ -10,16 +10,13 @@ use Rattle.layout.specs.declared.Head.{Head}
 use Rattle.layout.specs.declared.Call.{Call}
 use Rattle.layout.specs.declared.Form.{Form}
 use Rattle.layout.specs.declared.Form.the-variants.{Bare, Number, Continuation, DeclaredPriority, Preset, TimeOfDay, Resumption, Activation, Numbers, OneNumber}
+use Rattle.layout.specs.Fields.{mostNumbers}
 use Rattle.layout.specs.Marks.{form}
 use Rattle.lists.specs.Lists.{allZero, distinct}
 
 -- The largest value of a semaphore, and so of a preset.
 abbrev pub mostValue : ℕ
 mostValue = 65535
-
--- The longest list.
-abbrev pub mostNumbers : ℕ
-mostNumbers = 4
 
 -- Start kinds: 0 none, 1 AT, 2 AFTER, 3 WHEN, 4 WHEN AFTER, 5 ALL. End kinds: 0 none, 1 UNTIL, 2 DURING.
 abbrev pub lastKind : ℕ
@@ -63,8 +60,8 @@ pub record Used : Type 0 where
   pub endtime : Bool
 
 -- No start: number, priority, list and first time, used or not.
-abbrev pub plain : Bool → Bool → Bool → Bool → Used
-plain n p l f =
+abbrev pub plainUse : Bool → Bool → Bool → Bool → Used
+plainUse n p l f =
     record {
       number = n;
       priority = p;
@@ -108,16 +105,16 @@ going n f kind =
     }
 
 unfoldable pub uses : Form → Head → Used
-uses Bare h = plain false false false false
-uses Number h = plain true false false false
+uses Bare h = plainUse false false false false
+uses Number h = plainUse true false false false
 uses Continuation h = going true (atTime (h .kind) || afterDuration (h .kind)) (h .kind)
-uses DeclaredPriority h = plain false true false false
-uses Preset h = plain false false false true
-uses TimeOfDay h = plain false false false true
+uses DeclaredPriority h = plainUse false true false false
+uses Preset h = plainUse false false false true
+uses TimeOfDay h = plainUse false false false true
 uses Resumption h = going false (eqb (h .kind) 0 || (atTime (h .kind) || afterDuration (h .kind))) (h .kind)
 uses Activation h = start (h .kind) (h .endkind)
-uses Numbers h = plain false false true false
-uses OneNumber h = plain false false true false
+uses Numbers h = plainUse false false true false
+uses OneNumber h = plainUse false false true false
 
 -- A field is used or zero.
 abbrev pub orZero : Bool → ℕ → Bool
@@ -231,9 +228,9 @@ unless true n rest = rest
 unless false n rest = n
 
 -- The first of two refusals; 0 is none.
-abbrev pub before : ℕ → ℕ → ℕ
-before zero rest = rest
-before (suc n) rest = suc n
+abbrev pub firstRefusal : ℕ → ℕ → ℕ
+firstRefusal zero rest = rest
+firstRefusal (suc n) rest = suc n
 
 -- 3 or 4, or 0.
 unfoldable pub shape : Call → ℕ
@@ -245,4 +242,4 @@ times day h = unless (timed day (form (h .mark)) h) 6 0
 
 -- What the reader and the writer refuse a call or declaration with: 3, 4 or 6, or 0.
 unfoldable pub refusal : ℕ → Call → ℕ
-refusal day c = before (shape c) (times day (c .head))
+refusal day c = firstRefusal (shape c) (times day (c .head))

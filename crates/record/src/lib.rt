@@ -8,8 +8,6 @@ pub mod writer;
 // The largest value of a semaphore, and the most readers of a bolt.
 pub const MOST_VALUE: u32 = 65_535;
 
-pub const MOST_NUMBERS: u8 = 4;
-
 pub const LAST_KIND: u8 = 5;
 
 // The last start kind that needs no period.

@@ -1,16 +1,17 @@
 // The reader.
 ghost use mathlib.Core.Path.{_≡_};
 ghost use lib.ListN.{length};
-ghost use Rattle.calendar.specs.Limits.{day};
+ghost use Rattle.calendar.specs.Limits.{dayLength};
 ghost use Rattle.layout.specs.Fields.{recordLength, headOf, listOf};
 ghost use Rattle.record.specs.Refusals.{refusal};
-ghost use Rattle.record.specs.Reading.{callWith, refused, opened, reading};
+ghost use Rattle.record.specs.Reading.{numberOf, callWith, refused, opened, reading};
 use crate::Read;
 use crate::Reading;
 use crate::shape::shape_at;
 use crate::times::times_of;
 use layout::Head;
 use layout::Marked;
+use layout::NO_LIST;
 use layout::Numbers;
 use layout::RECORD_LENGTH;
 use layout::fields::head_at;
@@ -19,12 +20,22 @@ use layout::fields::list_at;
 use layout::marks::mark_of;
 
 // A refusal hands back a list of zeros.
-pub fn refuse(n: u8) -> Reading
+pub fn refused(n: u8) -> Reading
     ensures { λ r. ⌜ r ≡ refused n ⌝ }
 {
     Reading {
         answer: Read::Refused(n),
-        list: [0; 4],
+        list: NO_LIST,
+    }
+}
+
+// The number of an answer: 0, or the refusal's.
+pub fn number_of(a: Read) -> u8
+    ensures { λ n. ⌜ n ≡ numberOf a ⌝ }
+{
+    match a {
+        Read::Refused(n) => n,
+        Read::Accepted(_) => 0,
     }
 }
 
@@ -33,11 +44,11 @@ pub fn open(s: &[u8]) -> Reading
     ensures { λ r. ⌜ r ≡ opened (now (s .entry)) ⌝ }
 {
     if s.len() != RECORD_LENGTH {
-        return refuse(2);
+        return refused(2);
     }
     let found = mark_of(letters_at(s));
     let Marked::Known(mark) = found else {
-        return refuse(2);
+        return refused(2);
     };
     let head = head_at(s, mark);
     Reading {
@@ -51,7 +62,7 @@ pub(crate) fn refusal_at(s: &[u8], h: Head, list: Numbers) -> u8
     requires { ⌜ length (now s) ≡ recordLength ⌝ }
     requires { ⌜ h ≡ headOf (h .mark) (now s) ⌝ }
     requires { ⌜ list ≡ listOf (now s) ⌝ }
-    ensures { λ r. ⌜ r ≡ refusal day (callWith h list) ⌝ }
+    ensures { λ r. ⌜ r ≡ refusal dayLength (callWith h list) ⌝ }
 {
     let n = shape_at(s, h, list);
     if n != 0 {
@@ -62,7 +73,7 @@ pub(crate) fn refusal_at(s: &[u8], h: Head, list: Numbers) -> u8
 
 // What bytes of any length say, or the first of refusals 2, 3, 4 and 6.
 pub fn read(s: &[u8]) -> Reading
-    ensures { λ r. ⌜ r ≡ reading day (now (s .entry)) ⌝ }
+    ensures { λ r. ⌜ r ≡ reading dayLength (now (s .entry)) ⌝ }
 {
     let r = open(s);
     let answer = r.answer;
@@ -74,5 +85,5 @@ pub fn read(s: &[u8]) -> Reading
     if n == 0 {
         return r;
     }
-    refuse(n)
+    refused(n)
 }

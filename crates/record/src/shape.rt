@@ -5,21 +5,21 @@ ghost use mathlib.Core.Bool.{true, false, _&&_, _||_};
 ghost use Prim.Native.Nat.{_+_, _≤_};
 ghost use lib.Dec.{leb, eqb};
 ghost use lib.ListN.{length, drop};
-ghost use Rattle.layout.specs.Fields.{recordLength, headOf, listOf};
+ghost use Rattle.layout.specs.Fields.{recordLength, headOf, listOf, mostNumbers};
 ghost use Rattle.lists.specs.Lists.{allZero, stretch};
-ghost use Rattle.record.specs.Refusals.{mostNumbers, lastKind, lastPlainKind, lastEndKind, onInterrupt, atTime, afterDuration, plain, start, going, formed, listed, shape};
+ghost use Rattle.record.specs.Refusals.{lastKind, lastPlainKind, lastEndKind, onInterrupt, atTime, afterDuration, plainUse, start, going, formed, listed, shape};
 ghost use Rattle.record.specs.Stretches.{startBytes, usedStart, stretches, unused, zeroIn};
 ghost use Rattle.layout.specs.Marks.{form};
 ghost use Rattle.record.specs.Reading.{callWith};
 use crate::LAST_END_KIND;
 use crate::LAST_KIND;
 use crate::LAST_PLAIN_KIND;
-use crate::MOST_NUMBERS;
 use crate::MOST_VALUE;
 use crate::kinds::has_first;
 use crate::kinds::is_on_interrupt;
 use layout::Form;
 use layout::Head;
+use layout::MOST_NUMBERS;
 use layout::Numbers;
 use layout::RECORD_LENGTH;
 use layout::marks::form_of;
@@ -62,7 +62,7 @@ fn zero_past(s: &[u8], len: u8) -> bool
 // Whether a list's length is in range and the bytes are zero that its call doesn't use.
 fn is_list_formed(s: &[u8], len: u8) -> bool
     requires { ⌜ length (now s) ≡ recordLength ⌝ }
-    ensures { λ r. ⌜ r ≡ (leb len mostNumbers && zeroIn (now (s .entry)) (unused (plain false false true false) len)) ⌝ }
+    ensures { λ r. ⌜ r ≡ (leb len mostNumbers && zeroIn (now (s .entry)) (unused (plainUse false false true false) len)) ⌝ }
 {
     if MOST_NUMBERS < len {
         return false;

@@ -1,6 +1,6 @@
 // Refusal 6: times of day, durations and periods.
 ghost use mathlib.Core.Path.{_≡_};
-ghost use Rattle.calendar.specs.Limits.{day};
+ghost use Rattle.calendar.specs.Limits.{dayLength};
 ghost use Rattle.layout.specs.Marks.{form};
 ghost use Rattle.record.specs.Refusals.{endTimed, firstTimed, resumeTimed, givenIf, startTimed, timed, times};
 use crate::kinds::is_after_duration;
@@ -14,7 +14,7 @@ use layout::marks::form_of;
 
 // Whether an end's time is in range: UNTIL a time of day, DURING a duration. Most activations have no end.
 fn is_end_timed(endkind: u8, t: u32) -> bool
-    ensures { λ r. ⌜ r ≡ endTimed day endkind t ⌝ }
+    ensures { λ r. ⌜ r ≡ endTimed dayLength endkind t ⌝ }
 {
     if endkind == 0 {
         return true;
@@ -24,7 +24,7 @@ fn is_end_timed(endkind: u8, t: u32) -> bool
 
 // Whether a start's first time is in range: AT a time of day, AFTER a duration. Most calls have kind 0.
 fn is_first_timed(kind: u8, t: u32) -> bool
-    ensures { λ r. ⌜ r ≡ firstTimed day kind t ⌝ }
+    ensures { λ r. ⌜ r ≡ firstTimed dayLength kind t ⌝ }
 {
     if kind == 0 {
         return true;
@@ -34,7 +34,7 @@ fn is_first_timed(kind: u8, t: u32) -> bool
 
 // Whether a RESUME's first time is in range: a duration in kind 0, else that of its start.
 fn is_resume_timed(kind: u8, t: u32) -> bool
-    ensures { λ r. ⌜ r ≡ resumeTimed day kind t ⌝ }
+    ensures { λ r. ⌜ r ≡ resumeTimed dayLength kind t ⌝ }
 {
     ((0 < kind) | is_duration(t)) & is_first_timed(kind, t)
 }
@@ -48,7 +48,7 @@ fn given_if(needed: bool, period: u32) -> bool
 
 // Whether an activation's times are in range.
 fn is_start_timed(h: Head) -> bool
-    ensures { λ r. ⌜ r ≡ startTimed day h ⌝ }
+    ensures { λ r. ⌜ r ≡ startTimed dayLength h ⌝ }
 {
     is_first_timed(h.kind, h.first)
         & is_period(h.period)
@@ -58,7 +58,7 @@ fn is_start_timed(h: Head) -> bool
 
 // Whether the record passes refusal 6.
 fn is_timed(h: Head) -> bool
-    ensures { λ r. ⌜ r ≡ timed day (form (h .mark)) h ⌝ }
+    ensures { λ r. ⌜ r ≡ timed dayLength (form (h .mark)) h ⌝ }
 {
     let mark = h.mark;
     let f = form_of(mark);
@@ -73,7 +73,7 @@ fn is_timed(h: Head) -> bool
 
 // 6, or 0.
 pub fn times_of(h: Head) -> u8
-    ensures { λ r. ⌜ r ≡ times day h ⌝ }
+    ensures { λ r. ⌜ r ≡ times dayLength h ⌝ }
 {
     if is_timed(h) { 0 } else { 6 }
 }

@@ -1,6 +1,6 @@
 // The writer.
 ghost use mathlib.Core.Path.{_≡_};
-ghost use Rattle.calendar.specs.Limits.{day};
+ghost use Rattle.calendar.specs.Limits.{dayLength};
 ghost use Rattle.record.specs.Writing.{written};
 use crate::Written;
 use crate::reader::refusal_at;
@@ -10,7 +10,7 @@ use layout::fields::bytes_of;
 
 // The record of a call or declaration, or the refusal that the reader would give and zero bytes.
 pub fn write(c: Call) -> Written
-    ensures { λ r. ⌜ r ≡ written day c ⌝ }
+    ensures { λ r. ⌜ r ≡ written dayLength c ⌝ }
 {
     let bytes = bytes_of(c);
     let head = c.head;

@@ -3,9 +3,7 @@ use mathlib.Core.Path.{_≡_, refl}
 use mathlib.Core.Bool.{Bool, true, false, cond, _&&_}
 use lib.Dec.{eqb}
 use Rattle.calendar.specs.Moments.{isAt}
-use Rattle.calendar.specs.declared.Instant.{Instant}
 use Rattle.calendar.specs.declared.Moment.the-variants.{Never, At}
-use Rattle.schedule.specs.declared.Alarm.{Alarm}
 use Rattle.schedule.specs.Alarms.{pending}
 use Rattle.schedule.specs.Promises.{FallsAtNext}
 

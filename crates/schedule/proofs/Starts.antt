@@ -4,13 +4,13 @@ use mathlib.Core.Logic.{_⊎_, ⊎-elim, inl, inr}
 use Prim.Native.Nat.{ℕ, _≤_, _<_, _^_}
 use native.Mathlib.Omega.{arith}
 use borrow.Author.Tests.{ne-eqb}
-use Rattle.calendar.specs.Limits.{day, lastInstant, mostInstant}
+use Rattle.calendar.specs.Limits.{dayLength, lastInstant, mostInstant}
 use Rattle.calendar.specs.Times.{duration, until}
 use Rattle.calendar.specs.Dues.{firstDue}
 use Rattle.calendar.specs.declared.Instant.{Instant}
 use Rattle.calendar.specs.declared.Start.the-variants.{Now, After}
 use Rattle.record.specs.Refusals.{atTime, afterDuration}
-use Rattle.lock.proofs.Bools.{byBool}
+use Rattle.facts.proofs.Bools.{byBool}
 use Rattle.schedule.specs.Alarms.{startOf}
 
 pub start-after : (kind first : ℕ) → (kind ≡ 2) ⊎ (kind ≡ 4) → After (duration first) ≡ startOf kind first
@@ -22,7 +22,7 @@ start-now kind first a b =
 
 pub first-fits :
     (clock kind first : ℕ) (n : Instant) →
-    first < 2 ^ 32 → n .0 ≤ lastInstant → firstDue day (startOf kind first) clock n .0 ≤ mostInstant
+    first < 2 ^ 32 → n .0 ≤ lastInstant → firstDue dayLength (startOf kind first) clock n .0 ≤ mostInstant
 unfolding firstDue until
 first-fits clock kind first n f l =
     byBool (atTime kind) (λ a. rw a (omega arith))

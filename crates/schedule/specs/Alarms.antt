@@ -7,7 +7,7 @@ use Rattle.calendar.specs.Dues.{firstDue}
 use Rattle.calendar.specs.declared.Instant.{Instant}
 use Rattle.calendar.specs.declared.Duration.{Duration}
 use Rattle.calendar.specs.declared.Start.{Start}
-use Rattle.calendar.specs.declared.Start.the-variants.{Now, At, After}
+use Rattle.calendar.specs.declared.Start.the-variants.{Now, AtTime, After}
 use Rattle.record.specs.Refusals.{atTime, afterDuration, onInterrupt}
 use Rattle.schedule.specs.declared.Plan.{Plan}
 use Rattle.schedule.specs.declared.Plan.the-variants.{None, Clock, Armed, Triggered}
@@ -66,7 +66,7 @@ rearmed a = comingAt Armed (a .next) a
 
 -- When a start of a kind first comes due.
 abbrev pub startOf : ℕ → ℕ → Start
-startOf kind first = cond (atTime kind) (At first) (cond (afterDuration kind) (After (duration first)) Now)
+startOf kind first = cond (atTime kind) (AtTime first) (cond (afterDuration kind) (After (duration first)) Now)
 
 -- The alarm of a start of a kind at n: WHEN waits for its interrupt, AT, AFTER and ALL have their first due.
 unfoldable pub alarmOf : ℕ → ℕ → Instant → ℕ → ℕ → ℕ → Alarm

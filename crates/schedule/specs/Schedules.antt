@@ -31,9 +31,9 @@ module _ (day clock : ℕ) where
   lastOf e a = cond (pending (a .plan)) (lastAllowed day e clock (a .next)) Never
 
   -- A schedule that begins with an alarm: its end, period and priority.
-  abbrev pub begun : Alarm → End → ℕ → ℕ → Schedule
-  begun a e period p = record { alarm = a; last = lastOf e a; end = e; period = period; priority = p }
+  abbrev pub beginWith : Alarm → End → ℕ → ℕ → Schedule
+  beginWith a e period p = record { alarm = a; last = lastOf e a; end = e; period = period; priority = p }
 
   -- A trigger at n begins it anew.
   abbrev pub triggered : Instant → Schedule → Schedule
-  triggered n s = begun (setOff n (s .alarm)) (s .end) (s .period) (s .priority)
+  triggered n s = beginWith (setOff n (s .alarm)) (s .end) (s .period) (s .priority)

@@ -1,8 +1,8 @@
 // One alarm: what a start kind sets, when it falls due, what a trigger sets off.
 ghost use mathlib.Core.Path.{_≡_};
 ghost use Prim.Native.Nat.{_≤_};
-ghost use Rattle.calendar.specs.Limits.{day, lastInstant, mostInstant};
-ghost use Rattle.schedule.specs.Alarms.{noAlarm, pending, listening, setFor, armed, falls, listens, comingAt, rearmed, setOff, startOf, alarmOf};
+ghost use Rattle.calendar.specs.Limits.{dayLength, lastInstant, mostInstant};
+ghost use Rattle.schedule.specs.Alarms.{noAlarm, pending, listening, planned, setFor, armed, falls, listens, comingAt, rearmed, setOff, startOf, alarmOf};
 use crate::Alarm;
 use crate::Plan;
 use calendar::Duration;
@@ -35,6 +35,18 @@ impl Plan {
             Plan::Triggered => true,
         }
     }
+
+    // There is an alarm.
+    pub fn is_planned(self) -> bool
+        ensures { λ r. ⌜ r ≡ planned self ⌝ }
+    {
+        match self {
+            Plan::None => false,
+            Plan::Clock => true,
+            Plan::Armed => true,
+            Plan::Triggered => true,
+        }
+    }
 }
 
 // When a start of a kind first comes due.
@@ -42,7 +54,7 @@ fn start_of(kind: u8, first: u32) -> Start
     ensures { λ r. ⌜ r ≡ startOf kind first ⌝ }
 {
     match kind {
-        1 => Start::At(first),
+        1 => Start::AtTime(first),
         2 | 4 => Start::After(Duration(first)),
         _ => Start::Now,
     }
@@ -137,7 +149,7 @@ impl Alarm {
     // The alarm of a start of a kind at n: WHEN waits for its interrupt, AT, AFTER and ALL have their first due.
     pub fn of_start(kind: u8, first: u32, interrupt: u8, clock: u32, n: Instant) -> Alarm
         requires { ⌜ n .0 ≤ lastInstant ⌝ }
-        ensures { λ r. ⌜ (r ≡ alarmOf day clock n kind first interrupt) × (r .next .0 ≤ mostInstant) ⌝ }
+        ensures { λ r. ⌜ (r ≡ alarmOf dayLength clock n kind first interrupt) × (r .next .0 ≤ mostInstant) ⌝ }
     {
         if is_on_interrupt(kind) {
             return Alarm::armed(interrupt, Duration(first));

@@ -1,8 +1,8 @@
 // One schedule: what a due leaves of it, and how it begins.
 ghost use mathlib.Core.Path.{_≡_};
 ghost use Prim.Native.Nat.{_≤_};
-ghost use Rattle.calendar.specs.Limits.{day, lastInstant, mostInstant};
-ghost use Rattle.schedule.specs.Schedules.{noSchedule, withAlarm, advance, lastOf, begun, triggered};
+ghost use Rattle.calendar.specs.Limits.{dayLength, lastInstant, mostInstant};
+ghost use Rattle.schedule.specs.Schedules.{noSchedule, withAlarm, advance, lastOf, beginWith, triggered};
 use crate::Alarm;
 use crate::Schedule;
 use calendar::End;
@@ -14,7 +14,7 @@ use calendar::next_due;
 // The last allowed due, counted from the one to come.
 fn last_of(end: End, clock: u32, alarm: Alarm) -> Moment
     requires { ⌜ alarm .next .0 ≤ mostInstant ⌝ }
-    ensures { λ r. ⌜ r ≡ lastOf day clock end alarm ⌝ }
+    ensures { λ r. ⌜ r ≡ lastOf dayLength clock end alarm ⌝ }
 {
     let plan = alarm.plan;
     let next = alarm.next;
@@ -64,9 +64,9 @@ impl Schedule {
     }
 
     // One that begins with an alarm.
-    pub fn begin(alarm: Alarm, end: End, period: u32, priority: u8, clock: u32) -> Schedule
+    pub fn begin_with(alarm: Alarm, end: End, period: u32, priority: u8, clock: u32) -> Schedule
         requires { ⌜ alarm .next .0 ≤ mostInstant ⌝ }
-        ensures { λ r. ⌜ r ≡ begun day clock alarm end period priority ⌝ }
+        ensures { λ r. ⌜ r ≡ beginWith dayLength clock alarm end period priority ⌝ }
     {
         let last = last_of(end, clock, alarm);
         Schedule {
@@ -81,10 +81,10 @@ impl Schedule {
     // A trigger at n begins it anew.
     pub fn trigger(self, clock: u32, n: Instant) -> Schedule
         requires { ⌜ n .0 ≤ lastInstant ⌝ }
-        ensures { λ r. ⌜ r ≡ triggered day clock n self ⌝ }
+        ensures { λ r. ⌜ r ≡ triggered dayLength clock n self ⌝ }
     {
         let alarm = self.alarm;
         let end = self.end;
-        Schedule::begin(alarm.set_off(n), end, self.period, self.priority, clock)
+        Schedule::begin_with(alarm.set_off(n), end, self.period, self.priority, clock)
     }
 }

@@ -13,10 +13,10 @@ use Rattle.layout.specs.declared.Call.{Call}
 use Rattle.layout.specs.declared.Mark.{Mark}
 use Rattle.layout.specs.Marks.{is}
 use Rattle.layout.specs.declared.Mark.the-variants.{TG}
-use Rattle.lock.proofs.Bools.{byBool, both}
+use Rattle.facts.proofs.Bools.{byBool, both}
 use Rattle.task.specs.declared.Task.{Task}
 use Rattle.task.specs.declared.Turn.{Turn}
-use Rattle.machine.specs.Calls.{changeOf, trigger, interruptBy, arrive, workBy}
+use Rattle.machine.specs.Calls.{changeOf, triggerIn, interruptBy, arrive, workBy}
 use Rattle.machine.specs.Sorts.{sortOf, runnerAt}
 use Rattle.machine.specs.Refusals.{declaredBy, declaredIn}
 use Rattle.machine.specs.Running.{runner}
@@ -24,7 +24,7 @@ use Rattle.machine.specs.Serving.{Served, grantTo}
 use Rattle.machine.specs.Sets.{Set, Granted, setOf, mark, members, eachSet, noSets}
 use Rattle.machine.specs.declared.Sets.{Sets}
 use Rattle.machine.specs.State.{mostTasks, taskAt, enabledAt}
-use Rattle.machine.specs.Step.{refuse, finish, declared, carryOut, step}
+use Rattle.machine.specs.Step.{answered, finish, declared, carryOut, step}
 use Rattle.machine.specs.Work.{Work, changed, onlyEnabled, turns, everyTurn}
 use Rattle.machine.specs.declared.Change.{Change}
 use Rattle.machine.specs.declared.Sort.{Sort}
@@ -80,7 +80,7 @@ module _ (k : State) where
         go (Runs i) b = sized-one i (f i) (omega arith)
 
     sized-interrupt : (day : ℕ) (m : Mark) (i : ℕ) → Sized (interruptBy day m k i .sets)
-    unfolding interruptBy trigger
+    unfolding interruptBy triggerIn
     sized-interrupt day m i =
         byBool (is m TG) (λ e. rw e (byBool (enabledAt k i) (λ e. rw e (sized-every _ _)) (λ e. rw e (sized-none (k .enabled)))))
         (λ e. rw e (sized-none _))
@@ -116,8 +116,8 @@ module _ (k : State) where
               (λ p j l e h. unfold grantTo in put-lt 32 j (p .granted) (omega arith) h) (k .counts .tasks) _ (s Granted));
         }
 
-    in-plain : (n : ℕ) → n ≤ 17 → InTypes (refuse k n (runner k) .answer)
-    unfolding refuse
+    in-plain : (n : ℕ) → n ≤ 17 → InTypes (answered k n (runner k) .answer)
+    unfolding answered
     in-plain n h =
         record {
           number = omega arith;
@@ -126,15 +126,15 @@ module _ (k : State) where
         }
 
     in-declared : (d : State) → InTypes (declared k d .answer)
-    unfolding declared refuse
+    unfolding declared answered
     in-declared d = in-plain 0 (omega arith)
 
     in-out : (day : ℕ) (c : Call) → declaredIn (c .head .mark) (k .counts) c ≡ true → InTypes (carryOut day k c .answer)
     in-out day c e =
         out-cases day k c (λ z. InTypes (z .answer)) (λ d. in-declared _) (λ d. in-finish _ (sized-work day c (sortOf (c .head .mark)) e))
 
-in-idle : (k : State) (n : ℕ) → n ≤ 16 → InTypes (refuse k n Idle .answer)
-unfolding refuse
+in-idle : (k : State) (n : ℕ) → n ≤ 16 → InTypes (answered k n Idle .answer)
+unfolding answered
 in-idle k n h =
     record {
       number = omega arith;

@@ -1,5 +1,5 @@
 -- What holds at the head of the script's loop, and what a turn makes of it.
-use mathlib.Core.Path.{_≡_, refl, sym, ap, _∙_}
+use mathlib.Core.Path.{_≡_, refl, sym, _∙_}
 use mathlib.Core.Logic.{_≢_}
 use mathlib.Core.Bool.{Bool, true, false, _&&_}
 use mathlib.Core.List.{List, [], _++_, append-nil}
@@ -9,32 +9,30 @@ use lib.Dec.{leb, ltb}
 use lib.ListN.{length, take, drop, length-take, List·getD-eq-default}
 use lib.Seq.{getD-take, getD-drop}
 use borrow.Author.Tests.{leb-true, leb-false, ltb-true, ltb-false, ne-eqb}
-use Rattle.calendar.specs.Limits.{day, lastInstant}
+use Rattle.calendar.specs.Limits.{dayLength, tick, lastInstant}
 use Rattle.calendar.specs.Times.{duration, plus}
-use Rattle.calendar.specs.Moments.{upTo}
-use Rattle.calendar.proofs.Moments.{up-to-before}
+use Rattle.calendar.specs.Moments.{earlierThan}
 use Rattle.layout.specs.Fields.{recordLength, Octets}
-use Rattle.lock.proofs.Bools.{byBool, both}
+use Rattle.facts.proofs.Bools.{byBool, both}
 use Rattle.machine.specs.Invariants.{IsDay, Tables}
 use Rattle.machine.specs.NextEvent.{nextEvent}
 use Rattle.machine.specs.State.{begunAt}
-use Rattle.machine.specs.Step.{plainAnswer, refuse, step}
+use Rattle.machine.specs.Step.{plainAnswer, answered, step}
 use Rattle.machine.specs.Test.{kernelRefusal}
 use Rattle.machine.specs.declared.State.{State}
-use Rattle.machine.specs.declared.Running.{Running}
 use Rattle.machine.specs.declared.Running.the-variants.{Idle}
 use Rattle.machine.specs.declared.Stepped.{Stepped}
 use Rattle.machine.proofs.NextEvent.{next-is-next}
-use Rattle.machine.proofs.Filing.{taken-runner, taken-next}
-use Rattle.machine.proofs.Quiet.{quiet-step, still-taken, next-after}
+use Rattle.machine.proofs.Filing.{taken-next}
+use Rattle.machine.proofs.Quiet.{still-taken, next-after}
 use Rattle.machine.proofs.Invariants.{step-passes}
 use Rattle.machine.proofs.Facts.{StateOk, ok-of-passes}
-use Rattle.changes.proofs.CallLaws.{step-away}
+use Rattle.kernel_step.proofs.StepLaws.{step-away, quiet-tick}
 use Rattle.lines.specs.Buffers.{placed, Wrote}
 use Rattle.lines.specs.Lines.{line, longestLine}
 use Rattle.lines.proofs.PlacedLaws.{then}
-use Rattle.quiet_ticks.specs.Stirring.{isTick}
-use Rattle.quiet_ticks.proofs.QuietLaws.{tick-bytes}
+use Rattle.kernel_values.specs.Ticks.{isTick, isQuiet}
+use Rattle.kernel_values.proofs.TickLaws.{tick-bytes}
 use Rattle.script.specs.Records.{records}
 use Rattle.script.specs.Printed.{shown, printed}
 use Rattle.script.specs.Script.{goingOn, afterText, carried, some, Tells, Runs}
@@ -43,7 +41,7 @@ use Rattle.script.proofs.RecordLaws.{record-at, records-over}
 use Rattle.script.proofs.CarryLaws.{goes-on, carried-none, carried-stop, carried-go, after-after}
 use Rattle.script.proofs.PrintLaws.{says, says-line}
 
-isDay : IsDay day
+isDay : IsDay dayLength
 isDay = record { some = omega arith; room = omega arith }
 
 -- The bytes from at up to to.
@@ -67,8 +65,8 @@ pub record Going (bytes before : List ℕ) (start : State) (number : ℕ) (buffe
   pub within : at ≤ length bytes
   pub octets : Octets bytes
   pub tables : Tables k
-  pub tested : number ≡ kernelRefusal day k
-  pub rest : carried day (goingOn start) (records bytes) (length before) ≡ afterText text (carried day (goingOn k) (records (drop at bytes)) (length before - fill))
+  pub tested : number ≡ kernelRefusal dayLength k
+  pub rest : carried dayLength (goingOn start) (records bytes) (length before) ≡ afterText text (carried dayLength (goingOn k) (records (drop at bytes)) (length before - fill))
 
 -- The loop's test: there is a next record, and room for a longest line.
 abbrev pub goes : List ℕ → List ℕ → ℕ → ℕ → Bool
@@ -76,22 +74,22 @@ goes bytes buffer at fill = ltb at (length bytes) && leb longestLine (length buf
 
 module _ {bytes before : List ℕ} {start : State} {number : ℕ} {buffer : List ℕ} {k : State} {at fill : ℕ}
     (g : Going bytes before start number buffer k at fill) where
-  pub good : number ≡ 0 → kernelRefusal day k ≡ 0
+  pub good : number ≡ 0 → kernelRefusal dayLength k ≡ 0
   good o = sym (g .tested) ∙ o
 
-  ok-of : number ≡ 0 → StateOk day k
-  ok-of o = ok-of-passes day k (record { tables = g .tables; tested = good o })
+  ok-of : number ≡ 0 → StateOk dayLength k
+  ok-of o = ok-of-passes dayLength k (record { tables = g .tables; tested = good o })
 
   pub early : number ≡ 0 → k .now .0 ≤ lastInstant
   early o = ok-of o .now-ok
 
   -- What is left has no room, or there is nothing left.
-  told : (full : Bool) → carried day (goingOn k) (records (drop at bytes)) (length before - fill) ≡ record { script = goingOn k; text = []; left = records (drop at bytes) }
+  told : (full : Bool) → carried dayLength (goingOn k) (records (drop at bytes)) (length before - fill) ≡ record { script = goingOn k; text = []; left = records (drop at bytes) }
       → full ≡ some (records (drop at bytes))
-      → Tells (carried day (goingOn start) (records bytes) (length before)) bytes before buffer
+      → Tells (carried dayLength (goingOn start) (records bytes) (length before)) bytes before buffer
       (record { script = goingOn k; read = at; written = fill; full = full })
   told full e f =
-      let w : carried day (goingOn start) (records bytes) (length before) ≡ record { script = goingOn k; text = g .text; left = records (drop at bytes) } =
+      let w : carried dayLength (goingOn start) (records bytes) (length before) ≡ record { script = goingOn k; text = g .text; left = records (drop at bytes) } =
       g .rest ∙ rw (e, append-nil (g .text)) in
       rw w (record { script = refl; text = g .wrote; within = g .within; rest = refl; full = f })
 
@@ -105,27 +103,27 @@ module _ {bytes before : List ℕ} {start : State} {number : ℕ} {buffer : List
 
   -- After it, what is left decides whether it is full.
   pub stopped : (p : Script) → p .kernel .state ≡ start → goes bytes buffer at fill ≡ false
-      → Runs day p bytes before buffer (record { script = goingOn k; read = at; written = fill; full = ltb at (length bytes) })
+      → Runs dayLength p bytes before buffer (record { script = goingOn k; read = at; written = fill; full = ltb at (length bytes) })
   stopped p s e =
       rw (goes-on p, s)
       (byBool (ltb at (length bytes))
       (λ h.
       let i = record-at bytes at (min (at + recordLength) (length bytes)) (ltb-true at (length bytes) h) refl in
       let l = leb-false longestLine (length buffer - fill) (rw h at e) in
-      told (ltb at (length bytes)) (rw i (carried-stop day k _ _ (length before - fill) (omega (arith, g .long)))) (rw (h, i)))
+      told (ltb at (length bytes)) (rw i (carried-stop dayLength k _ _ (length before - fill) (omega (arith, g .long)))) (rw (h, i)))
       (λ h.
       let i = records-over bytes at (ltb-false at (length bytes) h) in
-      told (ltb at (length bytes)) (rw i (carried-none day (goingOn k) (length before - fill))) (rw (h, i))))
+      told (ltb at (length bytes)) (rw i (carried-none dayLength (goingOn k) (length before - fill))) (rw (h, i))))
 
   module _ (to : ℕ) (on : goes bytes buffer at fill ≡ true) (e : to ≡ min (at + recordLength) (length bytes))
       {buffer′ : List ℕ} {fill′ : ℕ} where
     -- One record more, with the machine's step z on it and z's line.
-    turned : (z : Stepped) → z ≡ step day k (part bytes at to)
+    turned : (z : Stepped) → z ≡ step dayLength k (part bytes at to)
         → Wrote buffer fill (shown (says z) (z .answer)) buffer′ fill′ → fill′ ≤ fill + longestLine → length buffer′ ≡ length buffer
-        → Tables (z .state) → number ≡ kernelRefusal day (z .state) → Going bytes before start number buffer′ (z .state) to fill′
+        → Tables (z .state) → number ≡ kernelRefusal dayLength (z .state) → Going bytes before start number buffer′ (z .state) to fill′
     turned z m w n b s v =
         let t : List ℕ = shown (says z) (z .answer) in
-        let p : printed (part bytes at to) (step day k (part bytes at to) .answer) ≡ t = unfold printed in rw (says-line day k (part bytes at to), ← m) in
+        let p : printed (part bytes at to) (step dayLength k (part bytes at to) .answer) ≡ t = unfold printed in rw (says-line dayLength k (part bytes at to), ← m) in
         let d : length before - fill - length t ≡ length before - fill′ = omega (arith, w .place) in
         record {
           text = g .text ++ t;
@@ -138,47 +136,45 @@ module _ {bytes before : List ℕ} {start : State} {number : ℕ} {buffer : List
           tested = v;
           rest =
               g .rest
-              ∙ rw (record-at bytes at to (ahead on) e, carried-go day k (part bytes at to) (records (drop to bytes)) (length before - fill) (omega (arith, g .long, fits on)), p, ← m, d)
+              ∙ rw (record-at bytes at to (ahead on) e, carried-go dayLength k (part bytes at to) (records (drop to bytes)) (length before - fill) (omega (arith, g .long, fits on)), p, ← m, d)
               (after-after (g .text) t _);
         }
 
     -- A kernel turned away stays.
     pub refused : number ≢ 0 → Wrote buffer fill (line (plainAnswer number Idle)) buffer′ fill′ → fill′ ≤ fill + longestLine → length buffer′ ≡ length buffer
         → Going bytes before start number buffer′ k to fill′
-    unfolding refuse
+    unfolding answered
     refused o w n b =
-        turned (record { state = k; answer = plainAnswer number Idle }) (step-away day k (part bytes at to) (g .tested) o) (rw (ne-eqb number 0 o) w) n b
+        turned (record { state = k; answer = plainAnswer number Idle }) (step-away dayLength k (part bytes at to) (g .tested) o) (rw (ne-eqb number 0 o) w) n b
         (g .tables) (g .tested)
 
     module _ (o : number ≡ 0) where
       -- Before the next event on file a tick only moves the present.
-      pub moved : {q : ℕ} → q ≡ upTo (lastInstant + 1) (k .file .next) → isTick (part bytes at to) ≡ true → k .now .0 + 1 < q
+      pub moved : isTick (part bytes at to) ≡ true → isQuiet (k .now) (k .file .next) ≡ true
           → Wrote buffer fill (line (plainAnswer 0 (k .file .running))) buffer′ fill′ → fill′ ≤ fill + longestLine → length buffer′ ≡ length buffer
           → Going bytes before start number buffer′ (begunAt (plus (k .now) (duration 1)) k) to fill′
-      moved e t j w n b =
-          let f = e ∙ ap (upTo (lastInstant + 1)) (taken-next day k (good o)) in
-          let p = up-to-before (lastInstant + 1) (nextEvent k) (k .now .0 + 1) (rw f at j) in
-          let quiet = next-is-next k .quiet 1 (p .1) in
+      unfolding answered isQuiet
+      moved t q w n b =
+          let p = both (ltb (k .now .0) lastInstant) (earlierThan (plus (k .now) (duration tick)) (k .file .next)) q in
+          let lt = ltb-true (k .now .0) lastInstant (p .0) in
+          let e : earlierThan (plus (k .now) (duration tick)) (nextEvent k) ≡ true = rw (← taken-next dayLength k (good o)) (p .1) in
           let z : Stepped = record { state = begunAt (plus (k .now) (duration 1)) k; answer = plainAnswer 0 (k .file .running) } in
-          let m : z ≡ step day k (part bytes at to) =
-          rw (tick-bytes (part bytes at to) t)
-          (ap (λ (x : Running). record { state = begunAt (plus (k .now) (duration 1)) k; answer = plainAnswer 0 x }) (taken-runner day k (good o))
-          ∙ sym (quiet-step day k (g .tables .tasks) (good o) quiet (omega (arith, p .0)))) in
-          let v = still-taken day k (plus (k .now) (duration 1)) (omega (arith, p .0)) (omega (arith, p .0)) (next-after k quiet) (good o) in
+          let m : z ≡ step dayLength k (part bytes at to) = rw (tick-bytes (part bytes at to) t) (quiet-tick dayLength k (g .tables .tasks) (good o) q refl) in
+          let v = still-taken dayLength k (plus (k .now) (duration 1)) (omega (arith, lt)) (omega (arith, lt)) (next-after k (next-is-next k .quiet 1 e)) (good o) in
           turned z m w n b
           (record { tasks = g .tables .tasks; places = g .tables .places; semaphores = g .tables .semaphores; bolts = g .tables .bolts; enabled = g .tables .enabled })
           (o ∙ sym v)
 
       -- Any other record.
-      pub stepped : (z : Stepped) → z ≡ step day k (part bytes at to)
+      pub stepped : (z : Stepped) → z ≡ step dayLength k (part bytes at to)
           → Wrote buffer fill (shown (says z) (z .answer)) buffer′ fill′ → fill′ ≤ fill + longestLine → length buffer′ ≡ length buffer
           → Going bytes before start number buffer′ (z .state) to fill′
       stepped z m w n b =
-          let p = step-passes day isDay k (record { tables = g .tables; tested = good o }) (part bytes at to) (octets-part bytes at to (g .octets)) in
+          let p = step-passes dayLength isDay k (record { tables = g .tables; tested = good o }) (part bytes at to) (octets-part bytes at to (g .octets)) in
           turned z m w n b (rw m (p .tables)) (o ∙ sym (rw m (p .tested)))
 
 -- Where the loop begins.
-pub started : (bytes before : List ℕ) (k : State) (number : ℕ) → Octets bytes → Tables k → number ≡ kernelRefusal day k
+pub started : (bytes before : List ℕ) (k : State) (number : ℕ) → Octets bytes → Tables k → number ≡ kernelRefusal dayLength k
     → Going bytes before k number before k 0 0
 unfolding placed
 started bytes before k number o t v =

@@ -10,7 +10,7 @@ use Rattle.layout.specs.declared.Call.{Call}
 use Rattle.layout.specs.declared.Mark.{Mark}
 use Rattle.machine.specs.Sorts.{declares}
 use Rattle.machine.specs.Calls.{addTask, addSemaphore, addBolt, addInterrupt, declaration}
-use Rattle.machine.specs.Step.{refuse, finish, declared, orRefuse, carryOut, carryOn, step}
+use Rattle.machine.specs.Step.{answered, finish, declared, orRefuse, carryOut, carryOn, step}
 use Rattle.machine.specs.Log.{isDeclaration}
 use Rattle.record.specs.Reading.{opened}
 use Rattle.machine.specs.Test.{kernelRefusal}
@@ -19,7 +19,7 @@ use Rattle.machine.specs.declared.Stepped.{Stepped}
 use Rattle.machine.proofs.Passed.{refusalOf, passed}
 use Rattle.machine.proofs.Cases.{opened-cases, out-cases, done-number, declaration-cases, carried-by, stepOpened, step-on}
 use Rattle.machine.proofs.Refused.{turned-away}
-use Rattle.lock.proofs.Bools.{byBool, contra}
+use Rattle.facts.proofs.Bools.{contra}
 use Rattle.script.specs.Printed.{silent}
 
 -- The code's test for a line.
@@ -51,7 +51,7 @@ says-read day k c = rw (carried-by day k c) (go (refusalOf day k c) refl)
         → not (eqb (orRefuse k n (carryOut day k c) .answer .number) 0 && declares (c .head .mark))
         ≡ says (orRefuse k n (carryOut day k c))
     go zero e = rw (begun-out day k c (passed day k c e .formal .timely), done-number day k c)
-    go (suc n) e = unfold refuse in rw (ne-eqb (suc n) 0 (λ q. omega arith))
+    go (suc n) e = unfold answered in rw (ne-eqb (suc n) 0 (λ q. omega arith))
 
 -- A line is printed for all but accepted declarations, by whether the kernel after the step has begun.
 pub says-line : (day : ℕ) (k : State) (s : List ℕ) → not (silent s (step day k s .answer)) ≡ says (step day k s)
@@ -62,5 +62,5 @@ says-line day k s = go (kernelRefusal day k) refl
     go zero v =
         rw (step-on day k s v)
         (opened-cases s (λ o. not (eqb (stepOpened day k (o .answer) (o .list) .answer .number) 0 && isDeclaration (o .answer)) ≡ says (stepOpened day k (o .answer) (o .list)))
-        (unfold refuse in refl) (says-read day k))
+        (unfold answered in refl) (says-read day k))
     go (suc n) v = rw (turned-away day n k s v, ne-eqb (suc n) 0 (λ q. omega arith))

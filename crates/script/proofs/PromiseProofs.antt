@@ -13,7 +13,7 @@ use Rattle.machine.specs.declared.Answer.{Answer}
 use Rattle.machine.specs.declared.State.{State}
 use Rattle.lines.specs.Lines.{line, longestLine}
 use Rattle.lines.proofs.LineLaws.{no-line-longer}
-use Rattle.lock.proofs.Bools.{byBool, contra}
+use Rattle.facts.proofs.Bools.{byBool, contra}
 use Rattle.script.specs.Printed.{shown, silent, printed, lines}
 use Rattle.script.specs.Script.{goingOn, Carried, afterText, carried}
 use Rattle.script.specs.Promises.{Carries, ScriptsCarried}

@@ -7,7 +7,7 @@ use native.Mathlib.Omega.{arith}
 use lib.ListN.{length, take, drop, length-drop, drop-of-length-le}
 use lib.Seq.{take-all, drop-drop}
 use Rattle.layout.specs.Fields.{recordLength}
-use Rattle.lock.proofs.Bools.{byBool}
+use Rattle.facts.proofs.Bools.{byBool}
 use lib.Dec.{leb}
 use borrow.Author.Tests.{leb-true, leb-false}
 use Rattle.script.specs.Records.{cut, records}

@@ -5,7 +5,7 @@ use Prim.Native.Nat.{ℕ, zero, suc, _+_, _-_, _≤_, _<_}
 use native.Mathlib.Omega.{arith}
 use lib.ListN.{length, drop, length-append, length-drop}
 use lib.Seq.{drop-drop}
-use Rattle.calendar.specs.Limits.{day}
+use Rattle.calendar.specs.Limits.{dayLength}
 use Rattle.machine.specs.Log.{final, log}
 use Rattle.machine.specs.declared.State.{State}
 use Rattle.machine.proofs.Rows.{final-append}
@@ -22,37 +22,37 @@ use Rattle.script.proofs.PromiseProofs.{scripts-carried}
 use Rattle.script.proofs.RecordLaws.{first-record, records-over}
 
 -- At the end of the script the machine has nothing more to do.
-pub at-end : (p : Script) (s : List ℕ) (at : ℕ) {last : State} → length s ≤ at → final day (p .kernel .state) (records (drop at s)) ≡ last → p ≡ goingOn last
+pub at-end : (p : Script) (s : List ℕ) (at : ℕ) {last : State} → length s ≤ at → final dayLength (p .kernel .state) (records (drop at s)) ≡ last → p ≡ goingOn last
 unfolding final
 at-end p s at h e = goes-on p ∙ ap goingOn (rw (records-over s at h) at e)
 
 -- Nothing done is no text.
-no-text : (k : State) → lines (log day k []) ≡ []
+no-text : (k : State) → lines (log dayLength k []) ≡ []
 unfolding lines log
 no-text k = refl
 
 -- With room for a longest line, less is left than there was.
-fewer : (p : Script) (rs : List (List ℕ)) (room : ℕ) (c : Carried) → Carries day p rs room c → longestLine ≤ room → 0 < length rs
+fewer : (p : Script) (rs : List (List ℕ)) (room : ℕ) (c : Carried) → Carries dayLength p rs room c → longestLine ≤ room → 0 < length rs
     → length (c .left) < length rs
 fewer p rs room c g h some-there = go (g .done) (c .left) refl refl
   where
     go : (d l : List (List ℕ)) → g .done ≡ d → c .left ≡ l → length (c .left) < length rs
     go d [] e f = rw f some-there
     go [] (r ∷ l) e f =
-        let t : length (c .text) ≡ 0 = ap length (g .text ∙ ap (λ (x : List (List ℕ)). lines (log day (p .kernel .state) x)) e ∙ no-text (p .kernel .state)) in
+        let t : length (c .text) ≡ 0 = ap length (g .text ∙ ap (λ (x : List (List ℕ)). lines (log dayLength (p .kernel .state) x)) e ∙ no-text (p .kernel .state)) in
         absurd (omega (arith, g .full (ap some f)))
     go (x ∷ d) (r ∷ l) e f =
         let s = ap length (g .split ∙ ap (λ (y : List (List ℕ)). y ++ c .left) e) in
         omega (arith, s, length-append (x ∷ d) (c .left))
 
-module _ (p : Script) (s before after : List ℕ) (at : ℕ) (r : Ran) (t : Runs day p (drop at s) before after r) where
-  stays : final day (r .script .kernel .state) (records (drop (at + r .read) s)) ≡ final day (p .kernel .state) (records (drop at s))
+module _ (p : Script) (s before after : List ℕ) (at : ℕ) (r : Ran) (t : Runs dayLength p (drop at s) before after r) where
+  stays : final dayLength (r .script .kernel .state) (records (drop (at + r .read) s)) ≡ final dayLength (p .kernel .state) (records (drop at s))
   stays =
-      let g = scripts-carried day p (records (drop at s)) (length before) in
-      let rest : records (drop (at + r .read) s) ≡ carried day p (records (drop at s)) (length before) .left = rw (← drop-drop (r .read) at s) (t .rest) in
+      let g = scripts-carried dayLength p (records (drop at s)) (length before) in
+      let rest : records (drop (at + r .read) s) ≡ carried dayLength p (records (drop at s)) (length before) .left = rw (← drop-drop (r .read) at s) (t .rest) in
       let k = p .kernel .state in
       let last = t .script ∙ g .script in
-      rw (last, rest) (sym (final-append day k (g .done) _) ∙ ap (final day k) (sym (g .split)))
+      rw (last, rest) (sym (final-append dayLength k (g .done) _) ∙ ap (final dayLength k) (sym (g .split)))
 
   gets-on : longestLine ≤ length before → at < length s → 0 < r .read
   gets-on room h = go (r .read) refl
@@ -61,8 +61,8 @@ module _ (p : Script) (s before after : List ℕ) (at : ℕ) (r : Ran) (t : Runs
       go (suc n) e = rw e (omega arith)
       go zero e =
           let d = length-drop at s in
-          let g = scripts-carried day p (records (drop at s)) (length before) in
-          let same : records (drop at s) ≡ carried day p (records (drop at s)) (length before) .left = rw e at (t .rest) in
+          let g = scripts-carried dayLength p (records (drop at s)) (length before) in
+          let same : records (drop at s) ≡ carried dayLength p (records (drop at s)) (length before) .left = rw e at (t .rest) in
           let n = ap length (first-record (drop at s) (omega arith)) in
           absurd (omega (arith, ap length same, fewer p (records (drop at s)) (length before) _ g room (omega arith)))
 

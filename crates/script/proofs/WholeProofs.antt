@@ -4,10 +4,10 @@ use mathlib.Core.List.{List, _++_, append-nil}
 use Prim.Native.Nat.{ℕ}
 use native.Mathlib.Omega.{arith}
 use lib.ListN.{length, drop, length-drop}
-use Rattle.calendar.specs.Limits.{day}
+use Rattle.calendar.specs.Limits.{dayLength}
 use Rattle.machine.specs.State.{nothing}
 use Rattle.machine.specs.Log.{final, log}
-use Rattle.cases.proofs.Computing.{computed}
+use Rattle.machine.proofs.Computing.{computed}
 use Rattle.lines.specs.Decimals.{spelt, decimal}
 use Rattle.lines.specs.Lines.{runningText, setsText, line}
 use Rattle.script.specs.Records.{cut, records}
@@ -31,7 +31,7 @@ runs-whole day p bytes before after r h t =
       full = rw none at (t .full);
     }
 
-m1-lines : lines (log day nothing (records m1Script)) ≡ m1Text
+m1-lines : lines (log dayLength nothing (records m1Script)) ≡ m1Text
 unfolding computed cut records silent printed lines spelt decimal runningText setsText line ascii
 m1-lines = refl
 
@@ -40,4 +40,4 @@ unfolding cut records ascii
 m1-count = refl
 
 pub m1-prints : M1Prints
-m1-prints before after r h t = rw (← m1-lines) (runs-whole day (goingOn nothing) m1Script before after r (rw m1-count h) t)
+m1-prints before after r h t = rw (← m1-lines) (runs-whole dayLength (goingOn nothing) m1Script before after r (rw m1-count h) t)

@@ -5,7 +5,7 @@ use Prim.Native.Nat.{ℕ, _*_, _≤_}
 use Prim.Native.Char.{code}
 use Prim.Native.String.{String, [] as none, _∷_ as _and_}
 use lib.ListN.{length, replicate}
-use Rattle.calendar.specs.Limits.{day}
+use Rattle.calendar.specs.Limits.{dayLength}
 use Rattle.machine.specs.State.{nothing}
 use Rattle.machine.specs.Log.{final}
 use Rattle.lines.specs.Lines.{longestLine}
@@ -47,5 +47,5 @@ m1Text =
 -- From the fresh kernel, into any buffer with room for nine lines.
 abbrev pub M1Prints : Type 0
 M1Prints =
-    (before after : List ℕ) (r : Ran) → longestLine * 9 ≤ length before → Runs day (goingOn nothing) m1Script before after r
-    → Prints m1Text (final day nothing (records m1Script)) m1Script before after r
+    (before after : List ℕ) (r : Ran) → longestLine * 9 ≤ length before → Runs dayLength (goingOn nothing) m1Script before after r
+    → Prints m1Text (final dayLength nothing (records m1Script)) m1Script before after r

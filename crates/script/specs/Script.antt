@@ -5,7 +5,7 @@ use mathlib.Core.List.{List, [], _∷_, _++_}
 use Prim.Native.Nat.{ℕ, _+_, _-_, _≤_, _<_}
 use lib.ListN.{length, drop}
 use lib.Dec.{ltb}
-use Rattle.calendar.specs.Limits.{day}
+use Rattle.calendar.specs.Limits.{dayLength}
 use Rattle.machine.specs.Step.{step}
 use Rattle.machine.specs.Log.{final}
 use Rattle.machine.specs.declared.State.{State}
@@ -29,7 +29,7 @@ pub record Next : Type 0 where
 
 -- What a record does is decided by where the script stands.
 unfoldable pub next : Stand → ℕ → State → List ℕ → Next
-next GoingOn day k r = let s = step day k r in record { script = goingOn (s .state); text = printed r (s .answer) }
+next GoingOn dayLength k r = let s = step dayLength k r in record { script = goingOn (s .state); text = printed r (s .answer) }
 
 -- The script after the last record done, the text, and the records that there was no room for.
 pub record Carried : Type 0 where
@@ -69,8 +69,8 @@ Runs day p bytes before after r = Tells (carried day p (records bytes) (length b
 -- One run over the bytes from at on: it gets on, its text lies within the buffer, and the machine's last kernel stays
 -- the same.
 pub record GetsOn (p : Script) (bytes : List ℕ) (at : ℕ) (before after : List ℕ) (r : Ran) : Type 0 where
-  pub runs : Runs day p (drop at bytes) before after r
+  pub runs : Runs dayLength p (drop at bytes) before after r
   pub further : 0 < r .read
   pub within : at + r .read ≤ length bytes
   pub text : r .written ≤ length after
-  pub last : final day (r .script .kernel .state) (records (drop (at + r .read) bytes)) ≡ final day (p .kernel .state) (records (drop at bytes))
+  pub last : final dayLength (r .script .kernel .state) (records (drop (at + r .read) bytes)) ≡ final dayLength (p .kernel .state) (records (drop at bytes))

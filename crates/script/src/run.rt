@@ -2,7 +2,7 @@
 ghost use mathlib.Core.Path.{_≡_};
 ghost use Prim.Native.Nat.{_+_, _≤_, _<_, min};
 ghost use lib.ListN.{length};
-ghost use Rattle.calendar.specs.Limits.{day};
+ghost use Rattle.calendar.specs.Limits.{dayLength};
 ghost use Rattle.layout.specs.Fields.{recordLength};
 ghost use Rattle.lines.specs.Buffers.{Wrote};
 ghost use Rattle.lines.specs.Lines.{longestLine};
@@ -11,18 +11,17 @@ ghost use Rattle.script.specs.Script.{Runs, GetsOn};
 use crate::Script;
 use crate::Stand;
 use calendar::Duration;
-use calendar::LAST_INSTANT;
-use calls::step::step_on;
 use kernel::Kernel;
+use kernel_step::kernel_refusal;
+use kernel_step::step_on;
+use kernel_values::answers::begun_at;
+use kernel_values::answers::plain_answer;
+use kernel_values::ticks::is_quiet;
+use kernel_values::ticks::is_tick;
 use layout::RECORD_LENGTH;
 use lines::line_at;
-use look::survey;
 use machine::Answer;
 use machine::Running;
-use quiet_ticks::is_tick;
-use serving::ends::begun_at;
-use serving::ends::plain;
-use urgency::file::kernel_refusal;
 
 pub const LONGEST_LINE: usize = 63;
 
@@ -62,14 +61,10 @@ fn line_if(show: bool, a: Answer, out: &mut [u8], at: usize) -> usize
 // The script over bytes, with as many lines as there is room for in out. A tick to an instant before the next event,
 // which is on file, only moves the present.
 pub fn run(script: Script, bytes: &[u8], out: &mut [u8]) -> Ran
-    ensures { λ r. ⌜ Runs day script (now (bytes .entry)) (now (out .entry)) (now (out .exit)) r ⌝ }
+    ensures { λ r. ⌜ Runs dayLength script (now (bytes .entry)) (now (out .entry)) (now (out .exit)) r ⌝ }
 {
     let mut k = script.kernel.state;
-    let v = survey(k);
-    let file = k.file;
-    let runner = v.runner;
-    let next = v.next;
-    let refusal = kernel_refusal(v.ok, file, runner, next);
+    let refusal = kernel_refusal(k);
     let mut at = 0;
     let mut fill = 0;
     while (at < bytes.len()) & (LONGEST_LINE <= out.len() - fill) {
@@ -77,19 +72,20 @@ pub fn run(script: Script, bytes: &[u8], out: &mut [u8]) -> Ran
         let rec = &bytes[at..to];
         at = to;
         if refusal != 0 {
-            fill = line_at(plain(refusal, Running::Idle), out, fill);
+            fill = line_at(plain_answer(refusal, Running::Idle), out, fill);
             continue;
         }
         let now = k.now;
         let file = k.file;
         let next = file.next;
-        if is_tick(rec) & (now.0 + 1 < next.up_to(LAST_INSTANT + 1)) {
+        let tick = is_tick(rec);
+        if tick & is_quiet(now, next) {
             let r = file.running;
             k = begun_at(k, now.plus(Duration(1)));
-            fill = line_at(plain(0, r), out, fill);
+            fill = line_at(plain_answer(0, r), out, fill);
             continue;
         }
-        let z = step_on(k, rec);
+        let z = step_on(k, tick, rec);
         let a = z.answer;
         k = z.state;
         fill = line_if((a.number != 0) | k.begun, a, out, fill);

@@ -3,7 +3,7 @@ use mathlib.Core.Path.{_≡_, refl, _∙_}
 use mathlib.Core.Bool.{Bool}
 use Prim.Native.Nat.{ℕ}
 use Rattle.calendar.specs.declared.Instant.{Instant}
-use Rattle.lock.proofs.Bools.{byBool}
+use Rattle.facts.proofs.Bools.{byBool}
 use Rattle.schedule.specs.declared.Alarm.{Alarm}
 use Rattle.schedule.specs.declared.Schedule.{Schedule}
 use Rattle.schedule.specs.Alarms.{falls, listens}

@@ -6,7 +6,7 @@ use native.Mathlib.Omega.{arith}
 use borrow.Author.Tests.{eq-eqb, ne-eqb}
 use Rattle.calendar.specs.declared.Instant.{Instant}
 use Rattle.lock.specs.Locks.{waiting}
-use Rattle.lock.proofs.Bools.{byBool, contra}
+use Rattle.facts.proofs.Bools.{byBool, contra}
 use Rattle.schedule.specs.declared.Alarm.{Alarm}
 use Rattle.schedule.specs.declared.Schedule.{Schedule}
 use Rattle.schedule.specs.Alarms.{falls, listens}
@@ -18,7 +18,7 @@ use Rattle.task.specs.declared.Kept.the-variants.{Empty, Back}
 use Rattle.task.specs.declared.Task.{Task}
 use Rattle.task.specs.State.{unheld, isKept, restOk, withCurrent, withHold, withSchedule, withContinuation}
 use Rattle.task.specs.Continuations.{goesOn, dropped, spent, continued, continueAt, calledBy}
-use Rattle.task.specs.Turns.{dueIf, dueTurn, endIf, preventTurn, suspendTurn, continueTurn, resumeTurn, delayEnds, wake, fallTurn, tickTurn, startTurn}
+use Rattle.task.specs.Turns.{dueIf, dueTurn, endIf, preventTurn, suspendTurn, goOnTurn, delayTurn, delayEnds, wake, fallTurn, tickTurn, startTurn}
 use Rattle.task.proofs.Dues.{continued-cases, spent-any}
 use Rattle.task.proofs.Fairness.{rest-facts}
 use Rattle.task.specs.Continuing.{HasNone, SameContinuation, SameHold, GoesOn, Leaves, SameElse, ComesDue, Later, OnInterrupt, Prevented, LeftAlone}
@@ -169,8 +169,8 @@ left-alone =
       schedule = λ n s t. fall-same n (withSchedule s t);
       end = λ t. end-same (t .kept) t;
       suspend = λ t. unfold suspendTurn in has (suspendTurn t .task);
-      continue = λ p t. unfold continueTurn in has (continueTurn p t .task);
-      resume = λ n t. unfold resumeTurn in has (resumeTurn n t .task);
+      continue = λ p t. unfold goOnTurn in has (goOnTurn p t .task);
+      resume = λ n t. unfold delayTurn in has (delayTurn n t .task);
       tick = tick-same;
       trigger = λ day clock n i t e. rw (on-interrupt .other n i t e) (start-same day clock n i t);
     }

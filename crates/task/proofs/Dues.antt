@@ -2,7 +2,7 @@
 use mathlib.Core.Path.{_≡_}
 use mathlib.Core.Bool.{Bool, true, false, not, _&&_}
 use Prim.Native.Nat.{ℕ}
-use Rattle.lock.proofs.Bools.{byBool}
+use Rattle.facts.proofs.Bools.{byBool}
 use Rattle.schedule.specs.declared.Alarm.{Alarm}
 use Rattle.schedule.specs.Alarms.{listening, rearmed}
 use Rattle.task.specs.declared.Task.{Task}

@@ -5,7 +5,7 @@ use Prim.Native.Nat.{ℕ}
 use native.Mathlib.Omega.{arith}
 use Rattle.calendar.specs.declared.Instant.{Instant}
 use Rattle.lock.specs.Locks.{waiting}
-use Rattle.lock.proofs.Bools.{tests, byBool, contra}
+use Rattle.facts.proofs.Bools.{tests, byBool, contra}
 use Rattle.schedule.specs.declared.Alarm.{Alarm}
 use Rattle.schedule.specs.declared.Schedule.{Schedule}
 use Rattle.schedule.specs.Alarms.{falls, listens, setOff}
@@ -20,7 +20,7 @@ use Rattle.task.specs.Continuations.{goesOn, withNext, continued, contin
 use Rattle.task.specs.Promises.{Fair, TurnsAreFair}
 use Rattle.task.proofs.Dues.{continued-cases, spent-any}
 use Rattle.task.proofs.Alike.{Like, like-wants, like-refl, like-hold, like-schedule, like-then, like-continuation, like-goes-on, like-continue-at, like-later, like-wake}
-use Rattle.task.specs.Turns.{unmarked, dueIf, dueTurn, endIf, endTurn, preventTurn, suspendTurn, continueTurn, resumeTurn, delayEnds, wake, fallTurn, tickTurn, scheduleTurn, startTurn, triggerTurn, laterTurn, restTurn}
+use Rattle.task.specs.Turns.{unmarked, dueIf, dueTurn, endIf, endTurn, preventTurn, suspendTurn, goOnTurn, delayTurn, delayEnds, wake, fallTurn, tickTurn, planTurn, startTurn, triggerTurn, goOnLaterTurn, restTurn}
 
 pub rest-facts : (a k w h : Bool) → (a || (not k && not w && h)) ≡ true → a ≡ false → (k ≡ false) × (w ≡ false) × (h ≡ true)
 rest-facts true k w h e z = contra refl z
@@ -101,12 +101,12 @@ pub fair-suspend : (t : Task) → Fair false t (suspendTurn t)
 unfolding suspendTurn
 fair-suspend t = fair-unmarked t _ (like-hold Suspended t)
 
-pub fair-continue : (p : ℕ) (t : Task) → Fair false t (continueTurn p t)
-unfolding continueTurn
+pub fair-continue : (p : ℕ) (t : Task) → Fair false t (goOnTurn p t)
+unfolding goOnTurn
 fair-continue p t = fair-unmarked t _ (like-goes-on p t)
 
-pub fair-resume : (n : Instant) (t : Task) → Fair false t (resumeTurn n t)
-unfolding resumeTurn
+pub fair-resume : (n : Instant) (t : Task) → Fair false t (delayTurn n t)
+unfolding delayTurn
 fair-resume n t = fair-unmarked t _ (like-hold (Delayed n) t)
 
 -- ---- schedules
@@ -168,7 +168,7 @@ fair-tick n t r =
     let h = rests-woken n t in
     fair-after false t (continueAt n (wake n t)) _ (h .like) (fair-fall n (continueAt n (wake n t)) (rests-on t _ h r))
 
-pub fair-schedule : (n : Instant) (s : Schedule) (t : Task) → restOk t ≡ true → Fair false t (scheduleTurn n s t)
+pub fair-schedule : (n : Instant) (s : Schedule) (t : Task) → restOk t ≡ true → Fair false t (planTurn n s t)
 fair-schedule n s t r = fair-after false t (withSchedule s t) _ (like-schedule s t) (fair-fall n (withSchedule s t) r)
 
 fair-start : (day clock : ℕ) (n : Instant) (i : ℕ) (t : Task) → restOk t ≡ true → Fair false t (startTurn day clock n i t)
@@ -184,7 +184,7 @@ fair-trigger day clock n i t r =
 
 -- ---- continuations
 
-pub fair-later : (n : Instant) (a : Alarm) (p : ℕ) (r : Bool) (t : Task) → Fair false t (laterTurn n a p r t)
+pub fair-later : (n : Instant) (a : Alarm) (p : ℕ) (r : Bool) (t : Task) → Fair false t (goOnLaterTurn n a p r t)
 fair-later n a p r t = fair-unmarked t _ (like-later n a p r t)
 
 pub fair-rest : (n : Instant) (a : Alarm) (t : Task) → Fair false t (restTurn n a t)

@@ -3,7 +3,7 @@ use mathlib.Core.Path.{_≡_, refl, sym, ap, _∙_}
 use mathlib.Core.Bool.{Bool, true, false, or-false}
 use Prim.Native.Nat.{ℕ}
 use Rattle.calendar.specs.declared.Instant.{Instant}
-use Rattle.lock.proofs.Bools.{byBool, contra, both}
+use Rattle.facts.proofs.Bools.{byBool, contra, both}
 use Rattle.schedule.specs.declared.Alarm.{Alarm}
 use Rattle.schedule.specs.Alarms.{listening, falls, listens, setOff}
 use Rattle.schedule.specs.Schedules.{advance}

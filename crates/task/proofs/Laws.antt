@@ -3,7 +3,7 @@ use mathlib.Core.Path.{_≡_, refl, sym, _∙_}
 use mathlib.Core.Bool.{false, _||_, or-false}
 use Prim.Native.Nat.{ℕ, zero, suc}
 use Rattle.calendar.specs.declared.Instant.{Instant}
-use Rattle.lock.proofs.Bools.{neither}
+use Rattle.facts.proofs.Bools.{neither}
 use Rattle.schedule.specs.Alarms.{falls, listens}
 use Rattle.schedule.proofs.Coming.{falls-at-next}
 use Rattle.task.specs.declared.Task.{Task}

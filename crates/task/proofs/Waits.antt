@@ -4,7 +4,7 @@ use mathlib.Core.Bool.{Bool, true, false}
 use Prim.Native.Nat.{ℕ}
 use Rattle.calendar.specs.declared.Instant.{Instant}
 use Rattle.lock.specs.Locks.{waiting}
-use Rattle.lock.proofs.Bools.{byBool, contra}
+use Rattle.facts.proofs.Bools.{byBool, contra}
 use Rattle.schedule.specs.declared.Alarm.{Alarm}
 use Rattle.schedule.specs.declared.Schedule.{Schedule}
 use Rattle.schedule.specs.Alarms.{falls, listens}
@@ -14,7 +14,7 @@ use Rattle.task.specs.declared.Kept.{Kept}
 use Rattle.task.specs.declared.Kept.the-variants.{Empty, Back}
 use Rattle.task.specs.declared.Task.{Task}
 use Rattle.task.specs.State.{withHold, withSchedule}
-use Rattle.task.specs.Turns.{dueIf, dueTurn, endIf, endTurn, preventTurn, suspendTurn, continueTurn, resumeTurn, wake, fallTurn, tickTurn, scheduleTurn, startTurn, triggerTurn, laterTurn, restTurn}
+use Rattle.task.specs.Turns.{dueIf, dueTurn, endIf, endTurn, preventTurn, suspendTurn, goOnTurn, delayTurn, wake, fallTurn, tickTurn, planTurn, startTurn, triggerTurn, goOnLaterTurn, restTurn}
 use Rattle.task.specs.Continuations.{continueAt, calledBy}
 use Rattle.task.proofs.Alike.{Like, like-then, like-wake, like-continue-at, like-later, like-called}
 
@@ -69,18 +69,18 @@ module _ (t : Task) where
   unfolding suspendTurn
   no-wait-suspend w = (refl, refl, refl)
 
-  pub no-wait-continue : (p : ℕ) → NoNewWait t (continueTurn p t .task)
-  unfolding continueTurn
+  pub no-wait-continue : (p : ℕ) → NoNewWait t (goOnTurn p t .task)
+  unfolding goOnTurn
   no-wait-continue p w = (refl, refl, refl)
 
-  pub no-wait-resume : (n : Instant) → NoNewWait t (resumeTurn n t .task)
-  unfolding resumeTurn
+  pub no-wait-resume : (n : Instant) → NoNewWait t (delayTurn n t .task)
+  unfolding delayTurn
   no-wait-resume n w = (refl, refl, refl)
 
   pub no-wait-due : (p : ℕ) → NoNewWait t (dueTurn p t .task)
   no-wait-due p = due-waits (t .alive) (t .kept) p t
 
-  pub no-wait-schedule : (n : Instant) (s : Schedule) → NoNewWait t (scheduleTurn n s t .task)
+  pub no-wait-schedule : (n : Instant) (s : Schedule) → NoNewWait t (planTurn n s t .task)
   no-wait-schedule n s = fall-waits n (withSchedule s t)
 
   pub no-wait-tick : (n : Instant) → NoNewWait t (tickTurn n t .task)
@@ -90,8 +90,8 @@ module _ (t : Task) where
   pub no-wait-trigger : (day clock : ℕ) (n : Instant) (i : ℕ) → NoNewWait t (triggerTurn day clock n i t .task)
   no-wait-trigger day clock n i = after t (calledBy n i t) (triggerTurn day clock n i t .task) (like-called n i t) (start-waits day clock n i (calledBy n i t))
 
-  pub no-wait-later : (n : Instant) (a : Alarm) (p : ℕ) (r : Bool) → NoNewWait t (laterTurn n a p r t .task)
-  no-wait-later n a p r w = same t (laterTurn n a p r t .task) (like-later n a p r t)
+  pub no-wait-later : (n : Instant) (a : Alarm) (p : ℕ) (r : Bool) → NoNewWait t (goOnLaterTurn n a p r t .task)
+  no-wait-later n a p r w = same t (goOnLaterTurn n a p r t .task) (like-later n a p r t)
 
   pub no-wait-rest : (n : Instant) (a : Alarm) → NoNewWait t (restTurn n a t .task)
   no-wait-rest n a w = same (withHold Suspended t) (restTurn n a t .task) (like-later n a 0 true (withHold Suspended t))

@@ -18,7 +18,7 @@ use Rattle.task.specs.declared.Hold.the-variants.{Unheld}
 use Rattle.task.specs.declared.Task.{Task}
 use Rattle.task.specs.State.{unheld, restOk, withContinuation}
 use Rattle.task.specs.Continuations.{orElse, withNext, continued, calledBy}
-use Rattle.task.specs.Turns.{unmarked, dueTurn, endTurn, preventTurn, suspendTurn, continueTurn, resumeTurn, delayEnds, tickTurn, scheduleTurn, triggerTurn, laterTurn}
+use Rattle.task.specs.Turns.{unmarked, dueTurn, endTurn, preventTurn, suspendTurn, goOnTurn, delayTurn, delayEnds, tickTurn, planTurn, triggerTurn, goOnLaterTurn}
 
 -- ---- the words
 
@@ -91,17 +91,17 @@ pub record ComesDue : Type 0 where
 pub record Later : Type 0 where
   -- it pends at f, and nothing else changes
   pub pends : (n f : Instant) (p : ℕ) (r : Bool) (t : Task) → f .0 ≢ n .0
-      → laterTurn n (setFor f) p r t ≡ unmarked (withContinuation (setFor f) p r t)
+      → goOnLaterTurn n (setFor f) p r t ≡ unmarked (withContinuation (setFor f) p r t)
   pub next : (f : Instant) → nextOf (setFor f) ≡ At f
   -- where f is n, it comes due in the call
   pub due : (n f : Instant) (p : ℕ) (r : Bool) (t : Task) → f .0 ≡ n .0
-      → laterTurn n (setFor f) p r t ≡ unmarked (continued (withContinuation (setFor f) p r t))
+      → goOnLaterTurn n (setFor f) p r t ≡ unmarked (continued (withContinuation (setFor f) p r t))
 
 -- WHEN and WHEN AFTER, with the interrupt i.
 pub record OnInterrupt : Type 0 where
   -- it waits, with no due, and nothing else changes
   pub waits : (n : Instant) (i : ℕ) (d : Duration) (p : ℕ) (r : Bool) (t : Task)
-      → laterTurn n (armed i d) p r t ≡ unmarked (withContinuation (armed i d) p r t)
+      → goOnLaterTurn n (armed i d) p r t ≡ unmarked (withContinuation (armed i d) p r t)
   pub none : (i : ℕ) (d : Duration) → nextOf (armed i d) ≡ Never
   -- a trigger of another interrupt is none of its
   pub other : (n : Instant) (i : ℕ) (t : Task) → listens i (t .continuation) ≡ false → calledBy n i t ≡ t
@@ -157,13 +157,13 @@ Prevented = (t : Task) → HasNone (preventTurn t .task) × SameHold t (preventT
 -- All other turns leave it as it is.
 pub record LeftAlone : Type 0 where
   pub due : (p : ℕ) (t : Task) → SameContinuation t (dueTurn p t .task)
-  pub schedule : (n : Instant) (s : Schedule) (t : Task) → SameContinuation t (scheduleTurn n s t .task)
+  pub schedule : (n : Instant) (s : Schedule) (t : Task) → SameContinuation t (planTurn n s t .task)
   -- an end leaves it to the next activation
   pub end : (t : Task) → SameContinuation t (endTurn t .task)
   pub suspend : (t : Task) → SameContinuation t (suspendTurn t .task)
   -- CONTINUE and RESUME at once
-  pub continue : (p : ℕ) (t : Task) → SameContinuation t (continueTurn p t .task)
-  pub resume : (n : Instant) (t : Task) → SameContinuation t (resumeTurn n t .task)
+  pub continue : (p : ℕ) (t : Task) → SameContinuation t (goOnTurn p t .task)
+  pub resume : (n : Instant) (t : Task) → SameContinuation t (delayTurn n t .task)
   -- a tick to another instant, a trigger of another interrupt
   pub tick : (n : Instant) (t : Task) → falls n (t .continuation) ≡ false → SameContinuation t (tickTurn n t .task)
   pub trigger : (day clock : ℕ) (n : Instant) (i : ℕ) (t : Task) → listens i (t .continuation) ≡ false

@@ -11,7 +11,7 @@ use Rattle.task.specs.declared.Task.{Task}
 use Rattle.task.specs.declared.Turn.{Turn}
 use Rattle.task.specs.State.{isKept, restOk, wanted}
 use Rattle.task.specs.Coming.{comes}
-use Rattle.task.specs.Turns.{unmarked, delayEnds, dueTurn, endTurn, preventTurn, suspendTurn, continueTurn, resumeTurn, tickTurn, scheduleTurn, triggerTurn, laterTurn, restTurn}
+use Rattle.task.specs.Turns.{unmarked, delayEnds, dueTurn, endTurn, preventTurn, suspendTurn, goOnTurn, delayTurn, tickTurn, planTurn, triggerTurn, goOnLaterTurn, restTurn}
 
 -- A turn is fair; p says whether it is that of a PREVENT.
 pub record Fair (p : Bool) (t : Task) (u : Turn) : Type 0 where
@@ -33,12 +33,12 @@ pub record TurnsAreFair : Type 0 where
   pub end : (t : Task) → t .alive ≡ true → Fair false t (endTurn t)
   pub prevent : (t : Task) → Fair true t (preventTurn t)
   pub suspend : (t : Task) → Fair false t (suspendTurn t)
-  pub continue : (p : ℕ) (t : Task) → Fair false t (continueTurn p t)
-  pub resume : (n : Instant) (t : Task) → Fair false t (resumeTurn n t)
+  pub continue : (p : ℕ) (t : Task) → Fair false t (goOnTurn p t)
+  pub resume : (n : Instant) (t : Task) → Fair false t (delayTurn n t)
   pub tick : (n : Instant) (t : Task) → restOk t ≡ true → Fair false t (tickTurn n t)
-  pub schedule : (n : Instant) (s : Schedule) (t : Task) → restOk t ≡ true → Fair false t (scheduleTurn n s t)
+  pub schedule : (n : Instant) (s : Schedule) (t : Task) → restOk t ≡ true → Fair false t (planTurn n s t)
   pub trigger : (day clock : ℕ) (n : Instant) (i : ℕ) (t : Task) → restOk t ≡ true → Fair false t (triggerTurn day clock n i t)
-  pub later : (n : Instant) (a : Alarm) (p : ℕ) (r : Bool) (t : Task) → Fair false t (laterTurn n a p r t)
+  pub later : (n : Instant) (a : Alarm) (p : ℕ) (r : Bool) (t : Task) → Fair false t (goOnLaterTurn n a p r t)
   pub rest : (n : Instant) (a : Alarm) (t : Task) → Fair false t (restTurn n a t)
 
 -- What comes to a task is what a tick acts on: its delay ends, its schedule falls due, or its continuation does.

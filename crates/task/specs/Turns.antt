@@ -30,8 +30,8 @@ abbrev pub cleared : Task → Task
 cleared t = withHold Unheld (withKept Empty (waitOver t))
 
 -- A task that starts with priority p.
-abbrev pub running : ℕ → Task → Task
-running p t = withAlive true (withCurrent p (cleared t))
+abbrev pub started : ℕ → Task → Task
+started p t = withAlive true (withCurrent p (cleared t))
 
 -- A task that has ended. Its priority goes back; its schedule is not touched.
 abbrev pub terminated : Task → Task
@@ -40,7 +40,7 @@ terminated t = withAlive false (withCurrent (t .declared) (cleared t))
 -- ---- due and end
 
 unfoldable pub dueIf : Bool → Kept → ℕ → Task → Turn
-dueIf false kept p t = marked true true false false (running p t)
+dueIf false kept p t = marked true true false false (started p t)
 dueIf true Empty p t = marked true false false false (withKept (Back p) t)
 dueIf true (Back q) p t = marked true false false true t
 
@@ -50,7 +50,7 @@ dueTurn p t = dueIf (t .alive) (t .kept) p t
 
 unfoldable pub endIf : Kept → Task → Turn
 endIf Empty t = marked false false true false (terminated t)
-endIf (Back p) t = marked false true true false (running p t)
+endIf (Back p) t = marked false true true false (started p t)
 
 -- TERMINATE, and the end of the running task. A start kept back starts.
 abbrev pub endTurn : Task → Turn
@@ -67,12 +67,12 @@ unfoldable pub suspendTurn : Task → Turn
 suspendTurn t = unmarked (withHold Suspended t)
 
 -- CONTINUE, with the priority given or the current one.
-unfoldable pub continueTurn : ℕ → Task → Turn
-continueTurn p t = unmarked (goesOn p t)
+unfoldable pub goOnTurn : ℕ → Task → Turn
+goOnTurn p t = unmarked (goesOn p t)
 
 -- RESUME delays until n.
-unfoldable pub resumeTurn : Instant → Task → Turn
-resumeTurn n t = unmarked (withHold (Delayed n) t)
+unfoldable pub delayTurn : Instant → Task → Turn
+delayTurn n t = unmarked (withHold (Delayed n) t)
 
 abbrev pub delayEnds : Instant → Hold → Bool
 delayEnds n h = isAt n (delayEnd h)
@@ -94,13 +94,13 @@ abbrev pub tickTurn : Instant → Task → Turn
 tickTurn n t = fallTurn n (continueAt n (wake n t))
 
 -- A schedule, from now on.
-abbrev pub scheduleTurn : Instant → Schedule → Task → Turn
-scheduleTurn n s t = fallTurn n (withSchedule s t)
+abbrev pub planTurn : Instant → Schedule → Task → Turn
+planTurn n s t = fallTurn n (withSchedule s t)
 
 -- A trigger of interrupt i at n sets off a schedule that waits for it.
 unfoldable pub startTurn : ℕ → ℕ → Instant → ℕ → Task → Turn
 startTurn day clock n i t =
-    cond (listens i (t .schedule .alarm)) (scheduleTurn n (triggered day clock n (t .schedule)) t) (unmarked t)
+    cond (listens i (t .schedule .alarm)) (planTurn n (triggered day clock n (t .schedule)) t) (unmarked t)
 
 -- TRIGGER of the enabled interrupt i at n: the continuation first, then the schedule.
 abbrev pub triggerTurn : ℕ → ℕ → Instant → ℕ → Task → Turn
@@ -109,9 +109,9 @@ triggerTurn day clock n i t = startTurn day clock n i (calledBy n i t)
 -- ---- continuations
 
 -- CONTINUE on a schedule: from now on the task has this continuation.
-abbrev pub laterTurn : Instant → Alarm → ℕ → Bool → Task → Turn
-laterTurn n a p r t = unmarked (continueAt n (withContinuation a p r t))
+abbrev pub goOnLaterTurn : Instant → Alarm → ℕ → Bool → Task → Turn
+goOnLaterTurn n a p r t = unmarked (continueAt n (withContinuation a p r t))
 
 -- RESUME on a schedule: the task is suspended, and continues without a priority of its own.
 abbrev pub restTurn : Instant → Alarm → Task → Turn
-restTurn n a t = laterTurn n a 0 true (withHold Suspended t)
+restTurn n a t = goOnLaterTurn n a 0 true (withHold Suspended t)

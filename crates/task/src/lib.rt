@@ -3,6 +3,7 @@ pub mod continuations;
 pub mod turns;
 
 use calendar::Instant;
+use layout::Numbers;
 use lock::Wait;
 use schedule::Alarm;
 use schedule::Schedule;
@@ -28,7 +29,7 @@ pub struct Task {
     pub kept: Kept,
     pub wait: Wait,
     pub len: u8,
-    pub list: [u8; 4],
+    pub list: Numbers,
     pub given: u8,
     pub resumed: bool,
     pub hold: Hold,

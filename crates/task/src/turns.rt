@@ -2,16 +2,17 @@
 ghost use mathlib.Core.Path.{_≡_};
 ghost use mathlib.Core.Bool.{_||_};
 ghost use Prim.Native.Nat.{_≤_};
-ghost use Rattle.calendar.specs.Limits.{day, lastInstant, mostInstant};
+ghost use Rattle.calendar.specs.Limits.{dayLength, lastInstant, mostInstant};
 ghost use Rattle.task.specs.State.{runnable, waitOver, waitFor, unheld, suspended, isKept, withCurrent, withAlive, withKept, withHold, withSchedule};
 ghost use Rattle.schedule.specs.Alarms.{listens};
-ghost use Rattle.task.specs.Turns.{marked, unmarked, cleared, dueTurn, endTurn, preventTurn, suspendTurn, continueTurn, resumeTurn, delayEnds, wake, fallTurn, tickTurn, scheduleTurn, startTurn, triggerTurn, laterTurn, restTurn};
+ghost use Rattle.task.specs.Turns.{marked, unmarked, cleared, dueTurn, endTurn, preventTurn, suspendTurn, goOnTurn, delayTurn, delayEnds, wake, fallTurn, tickTurn, planTurn, startTurn, triggerTurn, goOnLaterTurn, restTurn};
 use crate::Hold;
 use crate::Kept;
 use crate::Marks;
 use crate::Task;
 use crate::Turn;
 use calendar::Instant;
+use layout::Numbers;
 use lock::Wait;
 use lock::is_waiting;
 use schedule::Alarm;
@@ -101,7 +102,7 @@ impl Task {
     }
 
     // A wait that is over; its list is not looked at any more.
-    pub fn awake(self) -> Task
+    pub fn wait_over(self) -> Task
         ensures { λ r. ⌜ r ≡ waitOver self ⌝ }
     {
         Task {
@@ -111,7 +112,7 @@ impl Task {
     }
 
     // A wait takes the whole list of the call.
-    pub fn waiting_for(self, wait: Wait, len: u8, list: [u8; 4]) -> Task
+    pub fn wait_for(self, wait: Wait, len: u8, list: Numbers) -> Task
         ensures { λ r. ⌜ r ≡ waitFor wait len list self ⌝ }
     {
         Task {
@@ -198,14 +199,14 @@ impl Task {
 
     // CONTINUE, with the priority given or, at 0, the current one.
     pub fn go_on(self, given: u8) -> Turn
-        ensures { λ r. ⌜ r ≡ continueTurn given self ⌝ }
+        ensures { λ r. ⌜ r ≡ goOnTurn given self ⌝ }
     {
         Turn::unmarked(self.goes_on(given))
     }
 
     // RESUME delays until n.
     pub fn delay(self, n: Instant) -> Turn
-        ensures { λ r. ⌜ r ≡ resumeTurn n self ⌝ }
+        ensures { λ r. ⌜ r ≡ delayTurn n self ⌝ }
     {
         Turn::unmarked(self.with_hold(Hold::Delayed(n)))
     }
@@ -246,7 +247,7 @@ impl Task {
     // A schedule, from n on.
     pub fn plan(self, s: Schedule, n: Instant) -> Turn
         requires { ⌜ n .0 ≤ mostInstant ⌝ }
-        ensures { λ r. ⌜ r ≡ scheduleTurn n s self ⌝ }
+        ensures { λ r. ⌜ r ≡ planTurn n s self ⌝ }
     {
         self.with_schedule(s).fall(n)
     }
@@ -264,7 +265,7 @@ impl Task {
     // A trigger of interrupt i at n sets off a schedule that waits for it.
     fn start_by(self, clock: u32, n: Instant, i: u8) -> Turn
         requires { ⌜ n .0 ≤ lastInstant ⌝ }
-        ensures { λ r. ⌜ r ≡ startTurn day clock n i self ⌝ }
+        ensures { λ r. ⌜ r ≡ startTurn dayLength clock n i self ⌝ }
     {
         let s = self.schedule;
         let alarm = s.alarm;
@@ -277,14 +278,14 @@ impl Task {
     // TRIGGER of the enabled interrupt i at n: the continuation first, then the schedule.
     pub fn trigger(self, clock: u32, n: Instant, i: u8) -> Turn
         requires { ⌜ n .0 ≤ lastInstant ⌝ }
-        ensures { λ r. ⌜ r ≡ triggerTurn day clock n i self ⌝ }
+        ensures { λ r. ⌜ r ≡ triggerTurn dayLength clock n i self ⌝ }
     {
         self.called_by(i, n).start_by(clock, n, i)
     }
 
     // CONTINUE on a schedule: a continuation, from n on.
     pub fn go_on_later(self, alarm: Alarm, given: u8, resumed: bool, n: Instant) -> Turn
-        ensures { λ r. ⌜ r ≡ laterTurn n alarm given resumed self ⌝ }
+        ensures { λ r. ⌜ r ≡ goOnLaterTurn n alarm given resumed self ⌝ }
     {
         let t = self.with_continuation(alarm, given, resumed);
         Turn::unmarked(t.continue_at(n))

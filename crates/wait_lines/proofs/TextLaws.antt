@@ -10,9 +10,9 @@ use Rattle.lines.specs.Decimals.{decimal, spelt}
 use Rattle.lines.proofs.PlacedLaws.{wrote-nothing, then}
 use Rattle.machine.specs.State.{mostTasks}
 use Rattle.machine.specs.declared.State.{State}
-use Rattle.queue.specs.declared.Bound.{Bound}
-use Rattle.queue.specs.declared.Bound.the-variants.{Within}
-use Rattle.queue.specs.Queue.{boundOf}
+use Rattle.wait_bound.specs.declared.Bound.{Bound}
+use Rattle.wait_bound.specs.declared.Bound.the-variants.{Within}
+use Rattle.wait_bound.specs.Queue.{boundOf}
 use Rattle.wait_lines.specs.Text.{waitLine, boundText, textBelow, waitText}
 
 module _ (k : State) (before : List ℕ) (at : ℕ) where

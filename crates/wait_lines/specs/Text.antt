@@ -5,10 +5,10 @@ use Rattle.lines.specs.Decimals.{decimal}
 use Rattle.lines.specs.Lines.{space, lineFeed}
 use Rattle.machine.specs.State.{mostTasks}
 use Rattle.machine.specs.declared.State.{State}
-use Rattle.queue.specs.declared.Bound.{Bound}
-use Rattle.queue.specs.declared.Bound.the-variants.{Unbounded, Within}
-use Rattle.queue.specs.declared.Releases.{Releases}
-use Rattle.queue.specs.Queue.{boundOf}
+use Rattle.wait_bound.specs.declared.Bound.{Bound}
+use Rattle.wait_bound.specs.declared.Bound.the-variants.{Unbounded, Within}
+use Rattle.wait_bound.specs.declared.Releases.{Releases}
+use Rattle.wait_bound.specs.Queue.{boundOf}
 
 -- The task, the semaphore and the number of RELEASEs, as 3 0 2 and a line feed.
 unfoldable pub waitLine : ℕ → Releases → List ℕ

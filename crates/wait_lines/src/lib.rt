@@ -3,13 +3,13 @@ ghost use Prim.Native.Nat.{_+_, _≤_};
 ghost use lib.ListN.{length};
 ghost use Rattle.lines.specs.Buffers.{Wrote};
 ghost use Rattle.wait_lines.specs.Text.{waitLine, boundText, waitText, lineRoom, textRoom};
+use kernel_bound::bound_of;
 use lines::byte_at;
 use lines::spaced_at;
 use machine::MOST_TASKS;
 use machine::State;
-use queue::Bound;
-use queue::Releases;
-use queue::bound_of;
+use wait_bound::Bound;
+use wait_bound::Releases;
 
 // The line of a task that waits so; the place after it.
 fn line_at(task: u8, r: Releases, out: &mut [u8], at: usize) -> usize

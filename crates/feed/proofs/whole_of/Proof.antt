@@ -4,9 +4,6 @@ use Rattle.feed.specs.Feeding.{wholeOf}
 use Rattle.feed.proofs.whole_of.Statement.{statement}
 use Rattle.feed.proofs.whole_of.Tie as tie
 
-sub-result : tie.Need-sub-result
-sub-result c = search needs
-
 returns : tie.Need-returns
 unfolding wholeOf
 returns c = rw (c .if1 .taken)
@@ -16,4 +13,4 @@ unfolding wholeOf
 returns-2 c = rw (c .if1 .left)
 
 pub whole-of-spec : {M : Type 1} → statement M
-whole-of-spec = tie.close (tie.spec sub-result returns returns-2)
+whole-of-spec = tie.close (tie.spec (λ c. search needs) returns returns-2)

@@ -5,12 +5,6 @@ use Rattle.lines.proofs.DecimalLaws.{byte-long}
 use Rattle.lines.proofs.byte_at.Statement.{statement}
 use Rattle.lines.proofs.byte_at.Tie as tie
 
-decimal-at-requires : tie.Need-decimal-at-requires
-decimal-at-requires c κs = search needs
-
-same-length : tie.Need-same-length
-same-length c = search needs
-
 returns : tie.Need-returns
 returns c =
     let d = c .before .before .decimal-at in
@@ -18,4 +12,4 @@ returns c =
     (d .ensures .0, omega (arith, d .ensures .0 .place, byte-long (b .args .n) (b .fits .n .fits)))
 
 pub byte-at-spec : {M : Type 1} → statement M
-byte-at-spec = tie.close (tie.spec decimal-at-requires same-length returns)
+byte-at-spec = tie.close (tie.spec (λ c κs. search needs) (λ c. search needs) returns)

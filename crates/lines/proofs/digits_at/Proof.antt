@@ -21,9 +21,6 @@ Inv-loop n out₀ at end i₀ rest₀ out i rest =
 abbrev μ-loop : tie.MeasureT-loop
 μ-loop n out₀ at end i₀ rest₀ out i rest = rest
 
-digits-of-requires : tie.Need-digits-of-requires Inv-loop μ-loop
-digits-of-requires c κs = search needs
-
 add-end : tie.Need-add-end Inv-loop μ-loop
 add-end c =
     let b = c .before .before in
@@ -91,7 +88,7 @@ digits-at-spec =
     (tie.spec
     Inv-loop
     μ-loop
-    digits-of-requires
+    (λ c κs. search needs)
     add-end
     loop-holds
     sub-i

@@ -6,18 +6,6 @@ use Rattle.lines.proofs.PlacedLaws.{then}
 use Rattle.lines.proofs.line_at.Statement.{statement}
 use Rattle.lines.proofs.line_at.Tie as tie
 
-byte-at-requires : tie.Need-byte-at-requires
-byte-at-requires c κs = search needs
-
-running-at-requires : tie.Need-running-at-requires
-running-at-requires c κs = search needs
-
-sets-at-requires : tie.Need-sets-at-requires
-sets-at-requires c κs = search needs
-
-same-length : tie.Need-same-length
-same-length c = search needs
-
 returns : tie.Need-returns
 unfolding line
 returns c =
@@ -30,4 +18,4 @@ returns c =
 
 pub line-at-spec : {M : Type 1} → statement M
 line-at-spec =
-    tie.close (tie.spec byte-at-requires running-at-requires sets-at-requires same-length returns)
+    tie.close (tie.spec (λ c κs. search needs) (λ c κs. search needs) (λ c κs. search needs) (λ c. search needs) returns)

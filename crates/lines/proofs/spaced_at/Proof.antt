@@ -8,12 +8,6 @@ use Rattle.lines.proofs.PlacedLaws.{before-text}
 use Rattle.lines.proofs.spaced_at.Statement.{statement}
 use Rattle.lines.proofs.spaced_at.Tie as tie
 
-slice-write-out : tie.Need-slice-write-out
-slice-write-out c = search needs
-
-add-decimal-at : tie.Need-add-decimal-at
-add-decimal-at c = search needs
-
 decimal-at-requires : tie.Need-decimal-at-requires
 decimal-at-requires c κs = simp length-set (omega arith)
 
@@ -28,4 +22,4 @@ returns c =
 
 pub spaced-at-spec : {M : Type 1} → statement M
 spaced-at-spec =
-    tie.close (tie.spec slice-write-out add-decimal-at decimal-at-requires same-length returns)
+    tie.close (tie.spec (λ c. search needs) (λ c. search needs) decimal-at-requires same-length returns)

@@ -6,8 +6,8 @@ use mathlib.Core.List.{List}
 use Prim.Native.Nat.{ℕ, _-_, _≤_, zero-le}
 use lib.ListN.{length, drop}
 use lib.Seq.{length-take-le}
-use Rattle.lock.proofs.Bools.{contra}
-use Rattle.calendar.specs.Limits.{day}
+use Rattle.facts.proofs.Bools.{contra}
+use Rattle.calendar.specs.Limits.{dayLength}
 use Rattle.machine.specs.Log.{final}
 use Rattle.script.specs.Records.{records}
 use Rattle.script.specs.Script.{GetsOn}
@@ -18,7 +18,7 @@ use Rattle.rackrun.proofs.carry.Tie as tie
 abbrev Inv-loop : tie.InvT-loop
 Inv-loop bytes out₀ now₀ at₀ t7 out now at =
     (length out ≡ length out₀) × (at ≤ length bytes)
-    × (final day (now .kernel .state) (records (drop at bytes)) ≡ final day (now₀ .kernel .state) (records bytes))
+    × (final dayLength (now .kernel .state) (records (drop at bytes)) ≡ final dayLength (now₀ .kernel .state) (records bytes))
 
 abbrev μ-loop : tie.MeasureT-loop
 μ-loop bytes out₀ now₀ at₀ t7 out now at = length bytes - at
@@ -42,9 +42,6 @@ on u = u .run-from .ensures
 loop-holds : tie.Need-loop-holds Inv-loop μ-loop
 loop-holds c = (refl, zero-le, refl)
 
-run-from-requires : tie.Need-run-from-requires Inv-loop μ-loop
-run-from-requires c κs = search needs
-
 add-at : tie.Need-add-at Inv-loop μ-loop
 add-at c = let u = c .before .before .before .before in omega (arith, on u .within, headOf u .before .before .before .good .1 .0 .0)
 
@@ -54,14 +51,8 @@ slice-reshare-prefix-write-all c = let u = c .before .before .before .before in 
 slice-aggregate-write-all : tie.Need-slice-aggregate-write-all Inv-loop μ-loop
 slice-aggregate-write-all c = let u = c .before .before .before .before .before in sym (length-take-le _ _ (on u .text))
 
-write-all-requires : tie.Need-write-all-requires Inv-loop μ-loop
-write-all-requires c κs = search needs
-
 slice-aggregate-fail : tie.Need-slice-aggregate-fail Inv-loop μ-loop
 slice-aggregate-fail c = refl
-
-fail-requires : tie.Need-fail-requires Inv-loop μ-loop
-fail-requires c κs = search needs
 
 same-length : tie.Need-same-length Inv-loop μ-loop
 same-length c =
@@ -81,9 +72,6 @@ loop-again c =
     let u = c .before .before .before .before .before .before .before in
     (u .run-from .kept .1 .1 .1 .0 ∙ headOf u .loop .inv .0, on u .within, on u .last ∙ headOf u .loop .inv .2)
 
-same-length-2 : tie.Need-same-length-2 Inv-loop μ-loop
-same-length-2 c = search needs
-
 returns-2 : tie.Need-returns-2 Inv-loop μ-loop
 returns-2 c =
     let h = c .before in
@@ -96,16 +84,16 @@ carry-spec =
     Inv-loop
     μ-loop
     loop-holds
-    run-from-requires
+    (λ c κs. search needs)
     add-at
     slice-reshare-prefix-write-all
     slice-aggregate-write-all
-    write-all-requires
+    (λ c κs. search needs)
     slice-aggregate-fail
-    fail-requires
+    (λ c κs. search needs)
     same-length
     returns
     loop-less
     loop-again
-    same-length-2
+    (λ c. search needs)
     returns-2)

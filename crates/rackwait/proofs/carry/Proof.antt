@@ -5,7 +5,7 @@ use mathlib.Core.Path.{_≡_, refl, _∙_}
 use mathlib.Core.List.{List}
 use Prim.Native.Nat.{ℕ, _-_, _≤_, zero-le}
 use lib.ListN.{length, drop}
-use Rattle.calendar.specs.Limits.{day}
+use Rattle.calendar.specs.Limits.{dayLength}
 use Rattle.machine.specs.Log.{final}
 use Rattle.script.specs.Records.{records}
 use Rattle.script.specs.Script.{GetsOn}
@@ -16,7 +16,7 @@ use Rattle.rackwait.proofs.carry.Tie as tie
 abbrev Inv-loop : tie.InvT-loop
 Inv-loop bytes out₀ now₀ at₀ out now at =
     (length out ≡ length out₀) × (at ≤ length bytes)
-    × (final day (now .kernel .state) (records (drop at bytes)) ≡ final day (now₀ .kernel .state) (records bytes))
+    × (final dayLength (now .kernel .state) (records (drop at bytes)) ≡ final dayLength (now₀ .kernel .state) (records bytes))
 
 abbrev μ-loop : tie.MeasureT-loop
 μ-loop bytes out₀ now₀ at₀ out now at = length bytes - at
@@ -40,9 +40,6 @@ on u = u .run-from .ensures
 loop-holds : tie.Need-loop-holds Inv-loop μ-loop
 loop-holds c = (refl, zero-le, refl)
 
-run-from-requires : tie.Need-run-from-requires Inv-loop μ-loop
-run-from-requires c κs = search needs
-
 add-at : tie.Need-add-at Inv-loop μ-loop
 add-at c = let u = c .before .before .before .before in omega (arith, on u .within, headOf u .before .before .before .good .1 .0 .0)
 
@@ -54,9 +51,6 @@ loop-again c =
     let u = c .before .before .before .before in
     (u .run-from .kept .1 .1 .1 .0 ∙ headOf u .loop .inv .0, on u .within, on u .last ∙ headOf u .loop .inv .2)
 
-same-length : tie.Need-same-length Inv-loop μ-loop
-same-length c = search needs
-
 returns : tie.Need-returns Inv-loop μ-loop
 returns c =
     let h = c .before in
@@ -65,4 +59,4 @@ returns c =
 pub carry-spec : {M : Type 1} → statement M
 carry-spec =
     tie.close
-    (tie.spec Inv-loop μ-loop loop-holds run-from-requires add-at loop-less loop-again same-length returns)
+    (tie.spec Inv-loop μ-loop loop-holds (λ c κs. search needs) add-at loop-less loop-again (λ c. search needs) returns)

@@ -6,21 +6,9 @@ use Rattle.wait_lines.specs.Text.{boundText}
 use Rattle.wait_lines.proofs.bound_at.Statement.{statement}
 use Rattle.wait_lines.proofs.bound_at.Tie as tie
 
-enum-told : tie.Need-enum-told
-enum-told c = search needs
-
-enum-known-b : tie.Need-enum-known-b
-enum-known-b c = search needs
-
-line-at-requires : tie.Need-line-at-requires
-line-at-requires c κs = search needs
-
 returns : tie.Need-returns
 unfolding boundText
 returns c = rw (c .enum-told .given .1) (wrote-nothing _ _, omega arith)
-
-same-length : tie.Need-same-length
-same-length c = search needs
 
 returns-2 : tie.Need-returns-2
 unfolding boundText
@@ -31,4 +19,4 @@ returns-2 c =
 
 pub bound-at-spec : {M : Type 1} → statement M
 bound-at-spec =
-    tie.close (tie.spec enum-told enum-known-b line-at-requires returns same-length returns-2)
+    tie.close (tie.spec (λ c. search needs) (λ c. search needs) (λ c κs. search needs) returns (λ c. search needs) returns-2)

@@ -21,17 +21,8 @@ abbrev μ-loop : tie.MeasureT-loop
 loop-holds : tie.Need-loop-holds Inv-loop μ-loop
 loop-holds c = let a = c .before .args in (refl, omega arith, omega arith, text-none (a .k) (a .out .now) (a .at))
 
-bound-of-requires : tie.Need-bound-of-requires Inv-loop μ-loop
-bound-of-requires c κs = search needs
-
 bound-at-requires : tie.Need-bound-at-requires Inv-loop μ-loop
 bound-at-requires c κs = let h = c .before .before .before in omega (arith, h .loop .inv .0, h .loop .inv .2, h .before .before .pre)
-
-add-task : tie.Need-add-task Inv-loop μ-loop
-add-task c = search needs
-
-loop-less : tie.Need-loop-less Inv-loop μ-loop
-loop-less c = search needs
 
 loop-again : tie.Need-loop-again Inv-loop μ-loop
 loop-again c =
@@ -44,9 +35,6 @@ loop-again c =
       omega arith,
       text-more (a .k) (a .out .now) (a .at) (h .loop .task) (h .loop .inv .3) (omega arith) (b .bound-of .ensures) (w .bound-at .ensures .0),
     )
-
-same-length : tie.Need-same-length Inv-loop μ-loop
-same-length c = search needs
 
 returns : tie.Need-returns Inv-loop μ-loop
 returns c =
@@ -61,10 +49,10 @@ text-at-spec =
     Inv-loop
     μ-loop
     loop-holds
-    bound-of-requires
+    (λ c κs. search needs)
     bound-at-requires
-    add-task
-    loop-less
+    (λ c. search needs)
+    (λ c. search needs)
     loop-again
-    same-length
+    (λ c. search needs)
     returns)

@@ -14,7 +14,7 @@ use Rattle.lock.specs.declared.Way.the-variants.{Take}
 use Rattle.lock.specs.declared.Wait.the-variants.{Enter}
 use Rattle.lock.specs.declared.Locks.{Locks}
 use Rattle.lock.specs.Locks.{boltAt, canMove, moveOne}
-use Rattle.lock.proofs.Bools.{both}
+use Rattle.facts.proofs.Bools.{both}
 use Rattle.lock.proofs.Locks.move_one.Statement.{statement}
 use Rattle.lock.proofs.Locks.move_one.Tie as tie
 

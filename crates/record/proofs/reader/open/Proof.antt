@@ -12,12 +12,12 @@ marked : (c : tie.After-mark-of) → markOf (letters (now (c .before .before .be
 marked c = sym (c .mark-of .ensures ∙ ap markOf (c .before .letters-at .ensures))
 
 returns : tie.Need-returns
-returns c = c .refuse .ensures ∙ sym (opened-length _ (c .before .if1 .taken))
+returns c = c .refused .ensures ∙ sym (opened-length _ (c .before .if1 .taken))
 
 returns-2 : tie.Need-returns-2
 returns-2 c =
     let m = c .before .before .before in
-    c .refuse2 .ensures ∙ sym (opened-unknown _ (m .before .before .if1 .left) (marked m ∙ c .before .enum-told .given .1))
+    c .refused2 .ensures ∙ sym (opened-unknown _ (m .before .before .if1 .left) (marked m ∙ c .before .enum-told .given .1))
 
 returns-3 : tie.Need-returns-3
 returns-3 c =

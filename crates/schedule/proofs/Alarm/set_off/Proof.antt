@@ -4,14 +4,8 @@ use native.Mathlib.Omega.{arith}
 use Rattle.schedule.proofs.Alarm.set_off.Statement.{statement}
 use Rattle.schedule.proofs.Alarm.set_off.Tie as tie
 
-plus-requires : tie.Need-plus-requires
-plus-requires c κs = search needs
-
-coming-at-requires : tie.Need-coming-at-requires
-coming-at-requires c κs = search needs
-
 returns : tie.Need-returns
 returns c = let e = rw (c .before .plus .ensures) at (c .coming-at .ensures) in (e, rw e (omega arith))
 
 pub set-off-spec : {M : Type 1} → statement M
-set-off-spec = tie.close (tie.spec plus-requires coming-at-requires returns)
+set-off-spec = tie.close (tie.spec (λ c κs. search needs) (λ c κs. search needs) returns)

@@ -4,12 +4,6 @@ use Rattle.schedule.specs.Schedules.{lastOf}
 use Rattle.schedule.proofs.schedules.last_of.Statement.{statement}
 use Rattle.schedule.proofs.schedules.last_of.Tie as tie
 
-is-pending-requires : tie.Need-is-pending-requires
-is-pending-requires c κs = search needs
-
-last-allowed-requires : tie.Need-last-allowed-requires
-last-allowed-requires c κs = search needs
-
 returns : tie.Need-returns
 unfolding lastOf
 returns c = rw (← c .before .before .is-pending .ensures, c .before .if1 .taken) (c .last-allowed .ensures)
@@ -19,4 +13,4 @@ unfolding lastOf
 returns-2 c = rw (← c .before .is-pending .ensures, c .if1 .left)
 
 pub last-of-spec : {M : Type 1} → statement M
-last-of-spec = tie.close (tie.spec is-pending-requires last-allowed-requires returns returns-2)
+last-of-spec = tie.close (tie.spec (λ c κs. search needs) (λ c κs. search needs) returns returns-2)

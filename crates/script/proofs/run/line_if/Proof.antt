@@ -6,13 +6,7 @@ use Rattle.script.proofs.run.line_if.Statement.{statement}
 use Rattle.script.proofs.run.line_if.Tie as tie
 
 -- src/run.rt:67:9
-line-at-requires : tie.Need-line-at-requires
-line-at-requires c κs = search needs
-
 -- src/run.rt:67:9
-same-length : tie.Need-same-length
-same-length c = search needs
-
 -- src/run.rt:67:9
 returns : tie.Need-returns
 returns c = let l = c .before .before in rw (l .before .before .if1 .taken) (l .line-at .ensures)
@@ -22,4 +16,4 @@ returns-2 : tie.Need-returns-2
 returns-2 c = rw (c .if1 .left) (wrote-nothing _ _, omega arith)
 
 pub line-if-spec : {M : Type 1} → statement M
-line-if-spec = tie.close (tie.spec line-at-requires same-length returns returns-2)
+line-if-spec = tie.close (tie.spec (λ c κs. search needs) (λ c. search needs) returns returns-2)

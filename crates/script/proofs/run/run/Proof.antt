@@ -1,17 +1,13 @@
 -- What is carried on stays the same, and the text grows by each record's line.
 use borrow.Author.Needs.{needs}
-use borrow.Author.Tests.{ltb-true}
 use mathlib.Core.Path.{_≡_, refl, sym, _∙_}
-use mathlib.Core.Bool.{true}
 use Prim.Native.Nat.{ℕ, _+_, _-_, _≤_, _<_}
 use native.Mathlib.Omega.{arith}
 use lib.ListN.{length}
 use Rattle.machine.specs.declared.State.{State}
 use Rattle.lines.specs.Lines.{longestLine}
-use Rattle.lock.proofs.Bools.{both}
-use Rattle.calendar.specs.Limits.{day}
-use Rattle.calls.proofs.SaidLaws.{said-number}
-use Rattle.granting.proofs.Owned.{tables-long}
+use Rattle.facts.proofs.Bools.{both}
+use Rattle.kernel_values.proofs.Owned.{tables-long}
 use Rattle.script.proofs.Going.{Going, good, early, ahead, fits, started, stopped, refused, moved, stepped}
 use Rattle.script.proofs.run.run.Statement.{statement}
 use Rattle.script.proofs.run.run.Tie as tie
@@ -26,18 +22,18 @@ abbrev μ-loop : tie.MeasureT-loop
 abbrev N : Type 0
 N = tie.After-end-of Inv-loop μ-loop
 
--- Where the kernel isn't turned away, and once the next event on file has been looked at.
+-- Where the kernel isn't turned away, and once the record has been looked at.
 abbrev E : Type 0
 E = tie.Else1 Inv-loop μ-loop
 
 abbrev J : Type 0
-J = tie.After-up-to Inv-loop μ-loop
+J = tie.After-is-quiet Inv-loop μ-loop
 
 abbrev nOf : E → N
 nOf c = c .before .before
 
 abbrev eOf : J → E
-eOf c = c .before .before .before .before .before
+eOf c = c .before .before .before .before
 
 abbrev kOf : J → State
 kOf c = nOf (eOf c) .before .before .loop .k
@@ -45,22 +41,18 @@ kOf c = nOf (eOf c) .before .before .loop .k
 passes : (c : E) → nOf c .before .before .before .kernel-refusal .result ≡ 0
 passes c = c .if1 .left
 
-survey-requires : tie.Need-survey-requires Inv-loop μ-loop
-survey-requires c κs = search needs
-
 kernel-refusal-requires : tie.Need-kernel-refusal-requires Inv-loop μ-loop
 kernel-refusal-requires c κs = search needs
 
 loop-holds : tie.Need-loop-holds Inv-loop μ-loop
 loop-holds c =
-    let v = c .before .before in
-    let s = v .before .before .before .before in
+    let v = c .before .before .before in
+    let s = v .before in
     let a = s .args in
     let k = a .script .kernel .state in
     let o = s .good .0 .1 .1 .0 .1 .1 .0 in
-    started (a .bytes .now) (a .out .now) k (c .kernel-refusal .result)
-    (λ i. v .before .before .before .shared-slice-known .given i .fits) (tables-long k (o .0, o .1 .1))
-    (said-number day k (v .survey .ensures) (c .kernel-refusal .ensures))
+    started (a .bytes .now) (a .out .now) k (c .kernel-refusal .result) (λ i. v .shared-slice-known .given i .fits) (tables-long k (o .0, o .1 .1))
+    (c .kernel-refusal .ensures)
 
 sub-loop : tie.Need-sub-loop Inv-loop μ-loop
 sub-loop c = omega (arith, c .loop .inv .room, c .loop .inv .long)
@@ -77,15 +69,15 @@ part-rec-start c = omega arith
 part-rec-end : tie.Need-part-rec-end Inv-loop μ-loop
 part-rec-end c = omega arith
 
-plain-requires : tie.Need-plain-requires Inv-loop μ-loop
-plain-requires c κs = search needs
+plain-answer-requires : tie.Need-plain-answer-requires Inv-loop μ-loop
+plain-answer-requires c κs = search needs
 
 -- Room and measure, where a record's end is known.
 room : (c : N) → c .before .before .loop .fill + longestLine ≤ length (c .before .before .loop .out)
 room c = fits (c .before .before .loop .inv) (c .before .loop-test .taken)
 
-less : (c : N) → length (c .before .before .before .before .before .before .before .before .before .args .bytes .now) - c .end-of .result
-    < length (c .before .before .before .before .before .before .before .before .before .args .bytes .now) - c .before .before .loop .at
+less : (c : N) → length (c .before .before .before .before .before .before .before .args .bytes .now) - c .end-of .result
+    < length (c .before .before .before .before .before .before .before .args .bytes .now) - c .before .before .loop .at
 less c = omega (arith, ahead (c .before .before .loop .inv) (c .before .loop-test .taken))
 
 line-at-requires : tie.Need-line-at-requires Inv-loop μ-loop
@@ -100,19 +92,13 @@ loop-again c =
     let p = a .before .before in
     let n = p .before .before .before in
     refused (n .before .before .loop .inv) (n .end-of .result) (n .before .loop-test .taken) (n .end-of .ensures)
-    (p .before .if1 .taken) (rw (p .plain .ensures) at (a .line-at .ensures .0)) (a .line-at .ensures .1) (a .line-at .kept .1 .0)
+    (p .before .if1 .taken) (rw (p .plain-answer .ensures) at (a .line-at .ensures .0)) (a .line-at .ensures .1) (a .line-at .kept .1 .0)
 
 is-tick-requires : tie.Need-is-tick-requires Inv-loop μ-loop
 is-tick-requires c κs = search needs
 
-add-if2 : tie.Need-add-if2 Inv-loop μ-loop
-add-if2 c = let e = c .before .before .before .before in omega (arith, early (nOf e .before .before .loop .inv) (passes e))
-
-add-up-to : tie.Need-add-up-to Inv-loop μ-loop
-add-up-to c = search needs
-
-up-to-requires : tie.Need-up-to-requires Inv-loop μ-loop
-up-to-requires c κs = search needs
+is-quiet-requires : tie.Need-is-quiet-requires Inv-loop μ-loop
+is-quiet-requires c κs = let e = c .before .before .before in early (nOf e .before .before .loop .inv) (passes e)
 
 plus-requires : tie.Need-plus-requires Inv-loop μ-loop
 plus-requires c κs = let e = eOf (c .before) in omega (arith, early (nOf e .before .before .loop .inv) (passes e))
@@ -120,8 +106,8 @@ plus-requires c κs = let e = eOf (c .before) in omega (arith, early (nOf e .bef
 begun-at-requires : tie.Need-begun-at-requires Inv-loop μ-loop
 begun-at-requires c κs = search needs
 
-plain-requires-2 : tie.Need-plain-requires-2 Inv-loop μ-loop
-plain-requires-2 c κs = search needs
+plain-answer-requires-2 : tie.Need-plain-answer-requires-2 Inv-loop μ-loop
+plain-answer-requires-2 c κs = search needs
 
 line-at-requires-2 : tie.Need-line-at-requires-2 Inv-loop μ-loop
 line-at-requires-2 c κs = room (nOf (eOf (c .before .before .before .before .before)))
@@ -136,17 +122,17 @@ loop-again-2 c =
     let u = p .before .before in
     let j = u .before .before in
     let n = nOf (eOf j) in
-    let x = both _ _ (u .before .if2 .taken) in
+    let x = both (j .before .is-tick .result) (j .is-quiet .result) (u .before .if2 .taken) in
     rw (p .before .begun-at .ensures, u .plus .ensures)
-    (moved (n .before .before .loop .inv) (n .end-of .result) (n .before .loop-test .taken) (n .end-of .ensures) (passes (eOf j)) (j .up-to .ensures)
-    (sym (j .before .before .is-tick .ensures) ∙ x .0) (ltb-true _ _ (x .1)) (rw (p .plain2 .ensures) at (a .line-at2 .ensures .0))
+    (moved (n .before .before .loop .inv) (n .end-of .result) (n .before .loop-test .taken) (n .end-of .ensures) (passes (eOf j))
+    (sym (j .before .is-tick .ensures) ∙ x .0) (sym (j .is-quiet .ensures) ∙ x .1) (rw (p .plain-answer2 .ensures) at (a .line-at2 .ensures .0))
     (a .line-at2 .ensures .1) (a .line-at2 .kept .1 .0))
 
 step-on-requires : tie.Need-step-on-requires Inv-loop μ-loop
 step-on-requires c κs =
     let e = eOf (c .before) in
     let g = nOf e .before .before .loop .inv in
-    good g (passes e)
+    (good g (passes e), c .before .before .is-tick .ensures)
 
 line-if-requires : tie.Need-line-if-requires Inv-loop μ-loop
 line-if-requires c κs = room (nOf (eOf (c .before .before .before .before .before .before .before)))
@@ -169,7 +155,7 @@ same-length c = c .before .loop .inv .long
 returns : tie.Need-returns Inv-loop μ-loop
 returns c =
     let h = c .before in
-    stopped (h .loop .inv) (h .before .before .before .before .before .before .before .args .script) refl (c .loop-test .left)
+    stopped (h .loop .inv) (h .before .before .before .before .before .args .script) refl (c .loop-test .left)
 
 pub run-spec : {M : Type 1} → statement M
 run-spec =
@@ -177,7 +163,6 @@ run-spec =
     (tie.spec
     Inv-loop
     μ-loop
-    survey-requires
     kernel-refusal-requires
     loop-holds
     sub-loop
@@ -185,17 +170,15 @@ run-spec =
     sub-rec
     part-rec-start
     part-rec-end
-    plain-requires
+    plain-answer-requires
     line-at-requires
     loop-less
     loop-again
     is-tick-requires
-    add-if2
-    add-up-to
-    up-to-requires
+    is-quiet-requires
     plus-requires
     begun-at-requires
-    plain-requires-2
+    plain-answer-requires-2
     line-at-requires-2
     loop-less-2
     loop-again-2

@@ -5,7 +5,7 @@ use mathlib.Core.List.{List}
 use Prim.Native.Nat.{ℕ}
 use lib.ListN.{drop}
 use borrow.Rule.Slice.PartAt.{part-to-end}
-use Rattle.calendar.specs.Limits.{day}
+use Rattle.calendar.specs.Limits.{dayLength}
 use Rattle.script.specs.Script.{Runs}
 use Rattle.script.proofs.TurnLaws.{turned}
 use Rattle.script.proofs.run.run_from.Statement.{statement}
@@ -32,8 +32,8 @@ returns c =
     let s = u .before .before .before .before .before in
     let a = s .args in
     let out = u .run .last .1 .1 .0 in
-    let runs : Runs day (a .script) (drop (a .at) (a .bytes .now)) (a .out .now) out (u .run .result) =
-    subst (λ (x : List ℕ). Runs day (a .script) x (a .out .now) out (u .run .result)) (part-to-end (a .bytes .now) (a .at)) (u .run .ensures) in
+    let runs : Runs dayLength (a .script) (drop (a .at) (a .bytes .now)) (a .out .now) out (u .run .result) =
+    subst (λ (x : List ℕ). Runs dayLength (a .script) x (a .out .now) out (u .run .result)) (part-to-end (a .bytes .now) (a .at)) (u .run .ensures) in
     turned (a .script) (a .bytes .now) (a .out .now) out (a .at) (u .run .result) runs (s .pre .1) (s .pre .0)
 
 pub run-from-spec : {M : Type 1} → statement M

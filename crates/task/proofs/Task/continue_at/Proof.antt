@@ -4,12 +4,6 @@ use Rattle.task.specs.Continuations.{continueAt}
 use Rattle.task.proofs.Task.continue_at.Statement.{statement}
 use Rattle.task.proofs.Task.continue_at.Tie as tie
 
-falls-on-requires : tie.Need-falls-on-requires
-falls-on-requires c κs = search needs
-
-continued-requires : tie.Need-continued-requires
-continued-requires c κs = search needs
-
 returns : tie.Need-returns
 unfolding continueAt
 returns c = rw (← c .before .before .falls-on .ensures, c .before .if1 .taken) (c .continued .ensures)
@@ -19,4 +13,4 @@ unfolding continueAt
 returns-2 c = rw (← c .before .falls-on .ensures, c .if1 .left)
 
 pub continue-at-spec : {M : Type 1} → statement M
-continue-at-spec = tie.close (tie.spec falls-on-requires continued-requires returns returns-2)
+continue-at-spec = tie.close (tie.spec (λ c κs. search needs) (λ c κs. search needs) returns returns-2)

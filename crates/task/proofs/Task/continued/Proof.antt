@@ -4,21 +4,9 @@ use Rattle.task.specs.Continuations.{continued}
 use Rattle.task.proofs.Task.continued.Statement.{statement}
 use Rattle.task.proofs.Task.continued.Tie as tie
 
-is-unheld-requires : tie.Need-is-unheld-requires
-is-unheld-requires c κs = search needs
-
-spent-requires : tie.Need-spent-requires
-spent-requires c κs = search needs
-
 returns : tie.Need-returns
 unfolding continued
 returns c = rw (← c .before .before .is-unheld .ensures, c .before .if1 .taken) (c .spent .ensures)
-
-goes-on-requires : tie.Need-goes-on-requires
-goes-on-requires c κs = search needs
-
-spent-requires-2 : tie.Need-spent-requires-2
-spent-requires-2 c κs = search needs
 
 returns-2 : tie.Need-returns-2
 unfolding continued
@@ -28,9 +16,9 @@ pub continued-spec : {M : Type 1} → statement M
 continued-spec =
     tie.close
     (tie.spec
-    is-unheld-requires
-    spent-requires
+    (λ c κs. search needs)
+    (λ c κs. search needs)
     returns
-    goes-on-requires
-    spent-requires-2
+    (λ c κs. search needs)
+    (λ c κs. search needs)
     returns-2)

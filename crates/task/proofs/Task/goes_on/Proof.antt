@@ -3,11 +3,8 @@ use borrow.Author.Needs.{needs}
 use Rattle.task.proofs.Task.goes_on.Statement.{statement}
 use Rattle.task.proofs.Task.goes_on.Tie as tie
 
-or-else-requires : tie.Need-or-else-requires
-or-else-requires c κs = search needs
-
 returns : tie.Need-returns
 returns c = rw (c .before .before .before .or-else .ensures)
 
 pub goes-on-spec : {M : Type 1} → statement M
-goes-on-spec = tie.close (tie.spec or-else-requires returns)
+goes-on-spec = tie.close (tie.spec (λ c κs. search needs) returns)

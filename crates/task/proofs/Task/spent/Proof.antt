@@ -4,21 +4,9 @@ use Rattle.task.specs.Continuations.{spent}
 use Rattle.task.proofs.Task.spent.Statement.{statement}
 use Rattle.task.proofs.Task.spent.Tie as tie
 
-is-listening-requires : tie.Need-is-listening-requires
-is-listening-requires c κs = search needs
-
-rearmed-requires : tie.Need-rearmed-requires
-rearmed-requires c κs = search needs
-
-with-next-requires : tie.Need-with-next-requires
-with-next-requires c κs = search needs
-
 returns : tie.Need-returns
 unfolding spent
 returns c = rw (← c .before .before .before .before .is-listening .ensures, c .before .before .if1 .taken, ← c .before .rearmed .ensures) (c .with-next .ensures)
-
-dropped-requires : tie.Need-dropped-requires
-dropped-requires c κs = search needs
 
 returns-2 : tie.Need-returns-2
 unfolding spent
@@ -28,9 +16,9 @@ pub spent-spec : {M : Type 1} → statement M
 spent-spec =
     tie.close
     (tie.spec
-    is-listening-requires
-    rearmed-requires
-    with-next-requires
+    (λ c κs. search needs)
+    (λ c κs. search needs)
+    (λ c κs. search needs)
     returns
-    dropped-requires
+    (λ c κs. search needs)
     returns-2)

@@ -4,21 +4,9 @@ use Rattle.task.specs.Turns.{startTurn}
 use Rattle.task.proofs.Task.start_by.Statement.{statement}
 use Rattle.task.proofs.Task.start_by.Tie as tie
 
-listens-to-requires : tie.Need-listens-to-requires
-listens-to-requires c κs = search needs
-
-trigger-requires : tie.Need-trigger-requires
-trigger-requires c κs = search needs
-
-plan-requires : tie.Need-plan-requires
-plan-requires c κs = search needs
-
 returns : tie.Need-returns
 unfolding startTurn
 returns c = rw (← c .before .before .before .listens-to .ensures, c .before .before .if1 .taken, ← c .before .trigger .ensures) (c .plan .ensures)
-
-unmarked-requires : tie.Need-unmarked-requires
-unmarked-requires c κs = search needs
 
 returns-2 : tie.Need-returns-2
 unfolding startTurn
@@ -28,9 +16,9 @@ pub start-by-spec : {M : Type 1} → statement M
 start-by-spec =
     tie.close
     (tie.spec
-    listens-to-requires
-    trigger-requires
-    plan-requires
+    (λ c κs. search needs)
+    (λ c κs. search needs)
+    (λ c κs. search needs)
     returns
-    unmarked-requires
+    (λ c κs. search needs)
     returns-2)

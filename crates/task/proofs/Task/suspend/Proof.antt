@@ -4,15 +4,9 @@ use Rattle.task.specs.Turns.{suspendTurn}
 use Rattle.task.proofs.Task.suspend.Statement.{statement}
 use Rattle.task.proofs.Task.suspend.Tie as tie
 
-with-hold-requires : tie.Need-with-hold-requires
-with-hold-requires c κs = search needs
-
-unmarked-requires : tie.Need-unmarked-requires
-unmarked-requires c κs = search needs
-
 returns : tie.Need-returns
 unfolding suspendTurn
 returns c = rw (c .unmarked .ensures, c .before .with-hold .ensures)
 
 pub suspend-spec : {M : Type 1} → statement M
-suspend-spec = tie.close (tie.spec with-hold-requires unmarked-requires returns)
+suspend-spec = tie.close (tie.spec (λ c κs. search needs) (λ c κs. search needs) returns)

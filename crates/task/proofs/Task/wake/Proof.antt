@@ -4,12 +4,6 @@ use Rattle.task.specs.Turns.{wake}
 use Rattle.task.proofs.Task.wake.Statement.{statement}
 use Rattle.task.proofs.Task.wake.Tie as tie
 
-ends-at-requires : tie.Need-ends-at-requires
-ends-at-requires c κs = search needs
-
-with-hold-requires : tie.Need-with-hold-requires
-with-hold-requires c κs = search needs
-
 returns : tie.Need-returns
 unfolding wake
 returns c = rw (← c .before .before .ends-at .ensures, c .before .if1 .taken) (c .with-hold .ensures)
@@ -19,4 +13,4 @@ unfolding wake
 returns-2 c = rw (← c .before .ends-at .ensures, c .if1 .left)
 
 pub wake-spec : {M : Type 1} → statement M
-wake-spec = tie.close (tie.spec ends-at-requires with-hold-requires returns returns-2)
+wake-spec = tie.close (tie.spec (λ c κs. search needs) (λ c κs. search needs) returns returns-2)

@@ -1,2 +1,0 @@
-// The step over bytes, equal to the machine's.
-pub mod step;

@@ -1,0 +1,1 @@
+// Laws of truth values, numbers and tables that every crate cites. It has no code of its own.

@@ -1,3 +1,0 @@
--- Laws that the proofs of the code share.
-pub mod Owned
-pub mod WriterLaws

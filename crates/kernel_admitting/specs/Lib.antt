@@ -1,0 +1,2 @@
+-- A name for a contract of this crate.
+pub mod Admits

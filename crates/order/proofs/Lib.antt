@@ -1,5 +1,0 @@
--- Laws that the proofs of the code share.
-pub mod SeenLaws
-pub mod EventLaws
-pub mod Closing
-pub mod Behind

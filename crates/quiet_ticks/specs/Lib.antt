@@ -1,2 +1,0 @@
--- A name for a contract of this crate.
-pub mod Stirring

@@ -1,2 +1,0 @@
-// Serving, and what ends every accepted call.
-pub mod ends;

@@ -1,4 +1,0 @@
--- Laws that the proofs of the code share.
-pub mod PlaceLaws
-pub mod SetTill
-pub mod Turning

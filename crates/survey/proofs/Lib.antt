@@ -1,3 +1,0 @@
--- Laws that the proofs of the code share.
-pub mod TestLaws
-pub mod TaskFit

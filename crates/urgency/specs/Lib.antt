@@ -1,3 +1,0 @@
--- Names for the contracts of this crate.
-pub mod Leads
-pub mod Scanned
