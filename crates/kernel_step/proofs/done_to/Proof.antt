@@ -181,7 +181,8 @@ next c =
     let k = a .t1 in
     let new = c .before in
     let old = new .before in
-    ⊎-elim (λ w. w .2 ∙ w .1 .ensures)
+    ⊎-elim {C = c .if3 .next ≡ nextAmong (k .now) (k .counts .tasks) (set (k .tasks) (a .i) (x .change-of .result .task))}
+    (λ w. w .2 ∙ w .1 .ensures)
     (λ w. w .1 ∙ next-at s
     ∙ next-kept (k .now) (k .counts .tasks) (k .tasks) (a .i) (x .change-of .result .task) (omega (arith, placed s, tasks-long k (s .good .0 .0, s .good .0 .1 .1)))
     (sym (old .soonest .ensures) ∙ ap momentOf (w .0 .left) ∙ new .soonest2 .ensures))

@@ -91,7 +91,8 @@ priorities c = sym (prior c .are-priorities .ensures) ∙ not-false _ (c .before
 continuation : (c : C) → let i = here (prior c) in let t = one i in continuationOk (state (passed i) .counts .interrupts) (t .continuation) (t .given) ≡ true
 continuation c =
     let i = here (prior c) in
-    ⊎-elim (λ w. sym (w .3 .ensures (one i .given) (small i)) ∙ not-false _ (w .4 .left))
+    ⊎-elim {C = continuationOk (state (passed i) .counts .interrupts) (one i .continuation) (one i .given) ≡ true}
+    (λ w. sym (w .3 .ensures (one i .given) (small i)) ∙ not-false _ (w .4 .left))
     (λ w. continuation-none _ _ _ (sym (c .before .is-planned .ensures) ∙ w .0 .left)) (c .if3 .came)
 
 continuing : (c : C) → let i = here (prior c) in
