@@ -1,4 +1,6 @@
 // The calendar of the rack kernel: instants, durations and times of day. It knows no tasks.
+#![tactic(auto)]
+
 ghost use Rattle.std.specs.Prelude.{◌≡◌, ◌≤◌};
 ghost use Rattle.calendar.specs.Limits.{day_length, most_instant, is_time_of_day, is_duration, is_period};
 ghost use Rattle.calendar.specs.Times.{plus, time_of_day, until};
@@ -15,15 +17,15 @@ pub const LAST_INSTANT: u64 = 1_099_511_627_776;
 pub const MOST_INSTANT: u64 = 4_398_046_511_104;
 
 // CLOCK in PEARL: ticks since the kernel was fresh.
-#[derive(Drop)]
+#[derive(Clone, Copy)]
 pub struct Instant(pub u64);
 
 // DURATION in PEARL.
-#[derive(Drop)]
+#[derive(Clone, Copy)]
 pub struct Duration(pub u32);
 
 // When a start first comes due, seen from the instant at which it takes effect.
-#[derive(Drop)]
+#[derive(Clone, Copy)]
 pub enum Start {
     Now,
     AtTime(u32),
@@ -31,7 +33,7 @@ pub enum Start {
 }
 
 // How long a start repeats.
-#[derive(Drop)]
+#[derive(Clone, Copy)]
 pub enum End {
     Open,
     Until(u32),
@@ -39,7 +41,7 @@ pub enum End {
 }
 
 // An instant, or none.
-#[derive(Drop)]
+#[derive(Clone, Copy)]
 pub enum Moment {
     Never,
     At(Instant),

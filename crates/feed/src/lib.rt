@@ -1,4 +1,5 @@
 // What the programs that read a script share: reading on, and keeping the rest.
+#![tactic(auto)]
 ghost use Rattle.std.specs.Prelude.{◌≡◌, ◌-◌, ◌≤◌, length, drop};
 ghost use Rattle.std.proofs.Math.Seq.{paste};
 ghost use Rattle.feed.specs.Feeding.{whole_of, went_well, ReadOn};
@@ -8,7 +9,7 @@ use libc::STDIN_FILENO;
 
 // What a read has left in the buffer: how many bytes are to be carried out, and how many there are in all. It is ok
 // unless the read failed; more may come unless it found the end of the input.
-#[derive(Drop)]
+#[derive(Clone, Copy)]
 pub struct Fed {
     pub ok: bool,
     pub more: bool,

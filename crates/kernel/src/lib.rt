@@ -1,4 +1,5 @@
 // The rack kernel as its users handle it: a value, with a method for each call and declaration.
+#![tactic(auto)]
 pub mod clock;
 pub mod declarations;
 pub mod handling;
@@ -9,13 +10,13 @@ use machine::{Answer, State};
 pub use pearl::StartCondition;
 
 // The kernel, as a program hands it on.
-#[derive(Drop)]
+#[derive(Clone, Copy)]
 pub struct Kernel {
     pub state: State,
 }
 
 // The next kernel, and the answer.
-#[derive(Drop)]
+#[derive(Clone, Copy)]
 pub struct Reply {
     pub kernel: Kernel,
     pub answer: Answer,

@@ -1,5 +1,6 @@
 // Refusals 2 to 7: what bytes, counts and the first accepted call decide of a record.
 // `&` and `|` join tests that are all safe to make.
+#![tactic(auto)]
 ghost use Rattle.std.specs.Prelude.{◌≡◌, ◌≤◌};
 ghost use Rattle.calendar.specs.Limits.{day_length};
 ghost use Rattle.record.specs.Refusals.{shape};
@@ -21,7 +22,7 @@ use record::shape::shape_at;
 use record::times::times_of;
 
 // What a record is admitted as: the answer and the list as the reader has them, and the sort of the mark.
-#[derive(Drop)]
+#[derive(Clone, Copy)]
 pub struct Admitted {
     pub answer: Read,
     pub list: Numbers,

@@ -1,4 +1,5 @@
 // What a call does to the task that it is about and to the locks.
+#![tactic(auto)]
 pub mod activate;
 
 ghost use Rattle.std.specs.Prelude.{◌≡◌, ℕ, ◌≤◌, List};

@@ -1,4 +1,5 @@
 // Declarations: the next place of the kind is filled whole.
+#![tactic(auto)]
 pub mod fresh;
 
 ghost use Rattle.std.specs.Prelude.{◌≡◌, List, ℕ, ◌<◌};

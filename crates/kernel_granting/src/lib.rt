@@ -1,4 +1,5 @@
 // What could be granted, and the writers who wait, whom an ENTER lets go first.
+#![tactic(auto)]
 ghost use Rattle.std.specs.Prelude.{◌≡◌, true, not, ◌&&◌, List, [], ◌∷◌, ℕ, ◌<◌, ◌≤◌, ltb, take};
 ghost use Rattle.layout.specs.Fields.{most_numbers};
 ghost use Rattle.lock.specs.Locks.{most_locks, same_kind};
@@ -20,7 +21,7 @@ use machine::State;
 const NO_WRITER: u16 = 256;
 
 // For each bolt the smallest priority of a task that waits in a RESERVE naming it, once the tasks were looked at.
-#[derive(Drop)]
+#[derive(Clone, Copy)]
 pub struct Writers {
     pub known: bool,
     pub first: [u16; MOST_LOCKS as usize],

@@ -1,4 +1,5 @@
 // TRIGGER gives every task its turn, ENABLE and DISABLE none.
+#![tactic(auto)]
 ghost use Rattle.std.specs.Prelude.{◌≡◌, true, ◌≤◌, ◌<◌};
 ghost use Rattle.calendar.specs.Limits.{day_length, last_instant};
 ghost use Rattle.task.specs.Turns.{trigger_turn};
@@ -19,7 +20,7 @@ use layout::{Head, Mark};
 use machine::{Sets, State, Stepped};
 
 // A kernel at work, the sets so far, and who turned.
-#[derive(Drop)]
+#[derive(Clone, Copy)]
 pub struct Working {
     pub state: State,
     pub sets: Sets,

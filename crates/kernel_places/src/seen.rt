@@ -9,7 +9,7 @@ use machine::MOST_TASKS;
 
 // The places as a set, in which place p counts 2^p, and the bits of all their numbers together, which are small only
 // if each number is.
-#[derive(Drop)]
+#[derive(Clone, Copy)]
 pub struct Seen {
     pub places: u32,
     pub bits: u8,

@@ -1,4 +1,5 @@
 // Serving: while somebody waits on a list that could be granted, the most urgent one is granted it.
+#![tactic(auto)]
 ghost use Rattle.std.specs.Prelude.{◌≡◌, true, ◌<◌};
 ghost use Rattle.machine.specs.Granting.{servable};
 ghost use Rattle.machine.specs.Serving.{next_served, grant_to};
@@ -12,7 +13,7 @@ use lock::{Way, is_waiting};
 use machine::{Running, State};
 
 // A kernel whose waiting tasks have been served, and who was granted.
-#[derive(Drop)]
+#[derive(Clone, Copy)]
 pub struct Serviced {
     pub state: State,
     pub granted: u32,

@@ -1,4 +1,5 @@
 // Sets of tasks as numbers, in which task i counts 2^i.
+#![tactic(auto)]
 ghost use Rattle.std.specs.Prelude.{◌≡◌, List, ℕ, ◌<◌};
 ghost use Rattle.task.specs.declared.Task.{Task};
 ghost use Rattle.machine.specs.State.{most_tasks};
@@ -11,7 +12,7 @@ use machine::Sets;
 use task::{Marks, Task};
 
 // Who is runnable and who waits.
-#[derive(Drop)]
+#[derive(Clone, Copy)]
 pub struct Standing {
     pub runnable: u32,
     pub waiting: u32,

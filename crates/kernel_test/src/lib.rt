@@ -1,4 +1,5 @@
 // The kernel test, refusals 1 and 16. One look at a kernel tells its running task and its next event too.
+#![tactic(auto)]
 ghost use Rattle.std.specs.Prelude.{◌≡◌};
 ghost use Rattle.calendar.specs.Limits.{day_length};
 ghost use Rattle.machine.specs.Test.{kernel_refusal};
@@ -17,7 +18,7 @@ use kernel_urgency::scan::no_lead;
 use machine::{Running, State};
 
 // Whether the kernel passes the test; if so, its next event and its running task.
-#[derive(Drop)]
+#[derive(Clone, Copy)]
 pub struct Survey {
     pub ok: bool,
     pub next: Moment,

@@ -17,7 +17,7 @@ pub const NOBODY: usize = 65536;
 
 // The task that leads a scan, and how urgent it is. In two whole words: in less, the machine would put them together
 // and take them apart at every task.
-#[derive(Drop)]
+#[derive(Clone, Copy)]
 pub struct Lead {
     pub urgency: usize,
     pub task: usize,

@@ -1,11 +1,13 @@
 // Where the fields of a record stand: marks and their letters, 24 bytes to fields and back. Judges nothing.
+#![tactic(auto)]
+
 pub mod fields;
 pub mod marks;
 
 pub const RECORD_LENGTH: usize = 24;
 
 // Declarations first, then calls.
-#[derive(Drop)]
+#[derive(Clone, Copy)]
 pub enum Mark {
     DT,
     DS,
@@ -33,14 +35,14 @@ pub enum Mark {
     SL,
 }
 
-#[derive(Drop)]
+#[derive(Clone, Copy)]
 pub enum Marked {
     Unknown,
     Known(Mark),
 }
 
 // What follows a mark: which fields it uses.
-#[derive(Drop)]
+#[derive(Clone, Copy)]
 pub enum Form {
     Bare,
     Number,
@@ -55,7 +57,7 @@ pub enum Form {
 }
 
 // A call or declaration without its list: every field of a record as it stands there.
-#[derive(Drop)]
+#[derive(Clone, Copy)]
 pub struct Head {
     pub mark: Mark,
     pub number: u8,
@@ -85,7 +87,7 @@ pub type Bytes = [u8; RECORD_LENGTH];
 pub type Octets = [u8; 4];
 
 // A call or declaration.
-#[derive(Drop)]
+#[derive(Clone, Copy)]
 pub struct Call {
     pub head: Head,
     pub list: Numbers,

@@ -1,4 +1,6 @@
 // Facts that a rule asks of a list of numbers, of any length.
+#![tactic(auto)]
+
 ghost use Rattle.std.specs.Prelude.{◌≡◌, [], ◌∷◌, ◌+◌, ◌≤◌, length, take, drop};
 ghost use Rattle.lists.specs.Lists.{stretch, joined, all_zero, names, distinct};
 

@@ -1,4 +1,5 @@
 // Semaphores and bolts: what can be taken and given back, one number or a list.
+#![tactic(auto)]
 ghost use Rattle.std.specs.Prelude.{◌≡◌, true, ℕ, ◌<◌, ◌≤◌, take, ltb};
 ghost use Rattle.layout.specs.Fields.{most_numbers};
 ghost use Rattle.lists.specs.Lists.{distinct, every};
@@ -12,7 +13,7 @@ pub const MOST_LOCKS: u8 = 16;
 const MOST_VALUE: u16 = record::MOST_VALUE as u16;
 
 // What a task waits for.
-#[derive(Drop)]
+#[derive(Clone, Copy)]
 pub enum Wait {
     Nothing,
     Request,
@@ -21,19 +22,19 @@ pub enum Wait {
 }
 
 // A list is taken, or given back.
-#[derive(Drop)]
+#[derive(Clone, Copy)]
 pub enum Way {
     Take,
     Give,
 }
 
-#[derive(Drop)]
+#[derive(Clone, Copy)]
 pub struct Bolt {
     pub writer: bool,
     pub readers: u16,
 }
 
-#[derive(Drop)]
+#[derive(Clone, Copy)]
 pub struct Locks {
     pub semaphores: [u16; MOST_LOCKS as usize],
     pub bolts: [Bolt; MOST_LOCKS as usize],

@@ -1,4 +1,5 @@
 // The rack kernel's state, and what a step hands back.
+#![tactic(auto)]
 use calendar::{Instant, Moment};
 use lock::{Locks, Wait};
 use task::{Marks, Task};
@@ -11,7 +12,7 @@ pub const MOST_INTERRUPTS: u8 = 8;
 pub type Places = [u8; MOST_TASKS as usize];
 
 // What a mark is about.
-#[derive(Drop)]
+#[derive(Clone, Copy)]
 pub enum Sort {
     // DT, DS, DB, IT, DC
     Declaration,
@@ -30,7 +31,7 @@ pub enum Sort {
 }
 
 // What a call does to the task that it is about and to the locks, and which sets have the task.
-#[derive(Drop)]
+#[derive(Clone, Copy)]
 pub struct Change {
     pub task: Task,
     pub locks: Locks,
@@ -38,7 +39,7 @@ pub struct Change {
 }
 
 // How many of each kind are declared.
-#[derive(Drop)]
+#[derive(Clone, Copy)]
 pub struct Counts {
     pub tasks: u8,
     pub semaphores: u8,
@@ -46,7 +47,7 @@ pub struct Counts {
     pub interrupts: u8,
 }
 
-#[derive(Drop)]
+#[derive(Clone, Copy)]
 pub struct State {
     pub tasks: [Task; MOST_TASKS as usize],
     // Of each task its place in the order of events.
@@ -62,14 +63,14 @@ pub struct State {
     pub file: OnFile,
 }
 
-#[derive(Drop)]
+#[derive(Clone, Copy)]
 pub enum Running {
     Idle,
     Runs(u8),
 }
 
 // What a kernel has on file, so that nobody needs to look for it.
-#[derive(Drop)]
+#[derive(Clone, Copy)]
 pub struct OnFile {
     pub running: Running,
     // When something next comes to a task without another call.
@@ -77,7 +78,7 @@ pub struct OnFile {
 }
 
 // Sets of tasks, in which task i counts 2^i.
-#[derive(Drop)]
+#[derive(Clone, Copy)]
 pub struct Sets {
     pub due: u32,
     pub started: u32,
@@ -87,14 +88,14 @@ pub struct Sets {
 }
 
 // A number, 0 or a refusal; the running task; and the sets.
-#[derive(Drop)]
+#[derive(Clone, Copy)]
 pub struct Answer {
     pub number: u8,
     pub running: Running,
     pub sets: Sets,
 }
 
-#[derive(Drop)]
+#[derive(Clone, Copy)]
 pub struct Stepped {
     pub state: State,
     pub answer: Answer,

@@ -1,4 +1,5 @@
 // The script program: records from standard input, lines to standard output.
+#![tactic(auto)]
 ghost use Rattle.std.specs.Prelude.{◌≡◌, true, ◌≤◌, length};
 ghost use Rattle.calendar.specs.Limits.{day_length};
 ghost use Rattle.machine.specs.Log.{final};
@@ -13,7 +14,7 @@ use script::Script;
 use script::run::run_from;
 
 // The script after some records, and whether their lines could be written.
-#[derive(Drop)]
+#[derive(Clone, Copy)]
 struct Progress {
     script: Script,
     ok: bool,

@@ -1,4 +1,5 @@
 // Records of 24 bytes to calls and declarations, and back. Knows no kernel.
+#![tactic(auto)]
 pub mod kinds;
 pub mod reader;
 pub mod shape;
@@ -18,20 +19,20 @@ pub const LAST_END_KIND: u8 = 2;
 use layout::{Bytes, Head, Numbers};
 
 // The reader's answer. The list stands beside it, in Reading.
-#[derive(Drop)]
+#[derive(Clone, Copy)]
 pub enum Read {
     Refused(u8),
     Accepted(Head),
 }
 
-#[derive(Drop)]
+#[derive(Clone, Copy)]
 pub struct Reading {
     pub answer: Read,
     pub list: Numbers,
 }
 
 // The writer's answer: 0 and the record, or a refusal and zero bytes.
-#[derive(Drop)]
+#[derive(Clone, Copy)]
 pub struct Written {
     pub number: u8,
     pub bytes: Bytes,

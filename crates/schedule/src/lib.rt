@@ -1,4 +1,5 @@
 // What comes due, and when: one alarm, and a schedule of starts.
+#![tactic(auto)]
 pub mod alarms;
 pub mod schedules;
 
@@ -6,7 +7,7 @@ use calendar::{Duration, End, Instant, Moment};
 
 // No alarm; one that waits for its next due; one that waits for its interrupt; one that its interrupt
 // set off and that waits for its next due.
-#[derive(Drop)]
+#[derive(Clone, Copy)]
 pub enum Plan {
     None,
     Clock,
@@ -15,7 +16,7 @@ pub enum Plan {
 }
 
 // What comes due. Only a WHEN has an interrupt and a delay, which runs from the trigger; 0 is none.
-#[derive(Drop)]
+#[derive(Clone, Copy)]
 pub struct Alarm {
     pub plan: Plan,
     pub interrupt: u8,
@@ -23,7 +24,7 @@ pub struct Alarm {
     pub next: Instant,
 }
 
-#[derive(Drop)]
+#[derive(Clone, Copy)]
 pub struct Schedule {
     pub alarm: Alarm,
     pub last: Moment,

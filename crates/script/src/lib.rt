@@ -1,4 +1,5 @@
 // A whole script carried on: bytes of any length go in, lines of text come out.
+#![tactic(auto)]
 pub mod run;
 
 ghost use Rattle.std.specs.Prelude.{◌≡◌};
@@ -7,13 +8,13 @@ ghost use Rattle.script.specs.Script.{going_on};
 use kernel::Kernel;
 
 // Where a script stands. While it goes on, each record goes to the kernel.
-#[derive(Drop)]
+#[derive(Clone, Copy)]
 pub enum Stand {
     GoingOn,
 }
 
 // A script under way, as a program hands it on: the kernel that the records so far have left, and where it stands.
-#[derive(Drop)]
+#[derive(Clone, Copy)]
 pub struct Script {
     pub kernel: Kernel,
     pub stands: Stand,

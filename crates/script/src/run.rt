@@ -21,7 +21,7 @@ pub const LONGEST_LINE: usize = 63;
 
 // What became of a script's bytes: the script after them, how many were read, and how much text was written. It is
 // full where the room didn't reach for the next line.
-#[derive(Drop)]
+#[derive(Clone, Copy)]
 pub struct Ran {
     pub script: Script,
     pub read: usize,

@@ -1,4 +1,5 @@
 // One task: its priorities, wait, hold, kept-back start, schedule and continuation.
+#![tactic(auto)]
 pub mod continuations;
 pub mod turns;
 
@@ -7,7 +8,7 @@ use layout::Numbers;
 use lock::Wait;
 use schedule::{Alarm, Schedule};
 
-#[derive(Drop)]
+#[derive(Clone, Copy)]
 pub enum Hold {
     Unheld,
     Suspended,
@@ -15,7 +16,7 @@ pub enum Hold {
 }
 
 // The priority of the start that waits for the task to end, if there is one.
-#[derive(Drop)]
+#[derive(Clone, Copy)]
 pub enum Kept {
     Empty,
     Back(u8),
@@ -23,7 +24,7 @@ pub enum Kept {
 
 // A continuation has three parts: its alarm, the priority that it gives (0: the one current then), and whether a RESUME
 // made it. The last two stand where the fields before the hold leave room, so it takes 16 bytes of a task and not 24.
-#[derive(Drop)]
+#[derive(Clone, Copy)]
 pub struct Task {
     pub declared: u8,
     pub current: u8,
@@ -40,7 +41,7 @@ pub struct Task {
 }
 
 // Which of an answer's five sets have a task.
-#[derive(Drop)]
+#[derive(Clone, Copy)]
 pub struct Marks {
     pub due: bool,
     pub started: bool,
@@ -50,7 +51,7 @@ pub struct Marks {
 }
 
 // What happens to one task in a call.
-#[derive(Drop)]
+#[derive(Clone, Copy)]
 pub struct Turn {
     pub task: Task,
     pub marks: Marks,

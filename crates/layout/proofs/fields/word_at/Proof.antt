@@ -1,7 +1,0 @@
--- The first byte is the high one.
-use borrow.Author.Rules.{rules}
-use Rattle.layout.proofs.fields.word_at.Statement.{statement}
-use Rattle.layout.proofs.fields.word_at.Tie as tie
-
-pub word_at_spec : {M : Type 1} → statement M
-word_at_spec = tie.close (tie.spec (λ c. search rules) (λ c. search rules) (λ c. search rules) (λ c κs. search rules) (λ c. search rules) (λ c. search rules) (λ c. search rules) (λ c. search rules) (λ c κs. search rules) (λ c κs. search rules) (λ c. search rules))
