@@ -1,6 +1,7 @@
 // Hands kernels with this or that task and next event on file to the methods, as a program could, and prints their
 // lines. stdout has those that document 02 gives.
 #![tactic(auto)]
+
 ghost use Rattle.std.specs.Prelude.{◌≡◌};
 ghost use Rattle.machine.specs.State.{with_file};
 

@@ -1,6 +1,7 @@
 // Kernels with values written into them, at the limits of refusal 1 and one beyond: prints the lines of the methods on them.
 // stdout has the lines that document 01 gives.
 #![tactic(auto)]
+
 ghost use Rattle.std.specs.Prelude.{◌≡◌, set};
 ghost use Rattle.task.specs.Continuations.{with_next};
 ghost use Rattle.machine.specs.State.{task_at, with_state};

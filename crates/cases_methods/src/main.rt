@@ -1,5 +1,6 @@
 // Calls the methods as a program would, and prints their lines. stdout has the lines that document 01 gives.
 #![tactic(auto)]
+
 use calendar::{DAY_LENGTH, End, Instant, LAST_INSTANT, MOST_INSTANT, Moment};
 use cases_showing::{show, show_running, start};
 use kernel::{Kernel, StartCondition};

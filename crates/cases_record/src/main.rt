@@ -2,6 +2,7 @@
 // number, the number that the writer gives for the fields that the reader hands back, and whether the writer's bytes are
 // the same as the record's, zeros or others; or - for both where there are no fields.
 #![tactic(auto)]
+
 ghost use Rattle.std.specs.Prelude.{◌≡◌, ◌≤◌};
 ghost use Rattle.record.specs.Reading.{number_of};
 

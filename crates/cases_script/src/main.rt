@@ -1,6 +1,7 @@
 // Runs the scripts of cases_step through the script function, each from a fresh kernel and whole, with a small buffer
 // for the lines, so that it gets full. Standard input and output are those of cases_step.
 #![tactic(auto)]
+
 ghost use Rattle.std.specs.Prelude.{◌≡◌, ◌≤◌};
 
 use kernel::Kernel;

@@ -1,5 +1,6 @@
 // What the programs with cases share: the line of a reply, of the running task and of a number, and a start condition.
 #![tactic(auto)]
+
 ghost use Rattle.std.specs.Prelude.{◌≡◌};
 
 use kernel::{Kernel, Reply, StartCondition};

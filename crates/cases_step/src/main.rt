@@ -1,6 +1,7 @@
 // Runs scripts through the step, each from a fresh kernel. Standard input has each record behind a byte with its
 // length, and a 0 before each script; printed are an empty line for each script, and the lines of its records.
 #![tactic(auto)]
+
 ghost use Rattle.std.specs.Prelude.{◌≡◌, ◌≤◌};
 
 use kernel::Kernel;

@@ -2,6 +2,7 @@
 // length, and a 0 before each script; printed are an empty line for each script, and the lines of the tasks that wait
 // for one semaphore at its end.
 #![tactic(auto)]
+
 ghost use Rattle.std.specs.Prelude.{◌≡◌, ◌≤◌};
 
 use kernel::Kernel;

@@ -1,5 +1,6 @@
 // What the programs that read a script share: reading on, and keeping the rest.
 #![tactic(auto)]
+
 ghost use Rattle.std.specs.Prelude.{◌≡◌, ◌-◌, ◌≤◌, length, drop};
 ghost use Rattle.std.proofs.Math.Seq.{paste};
 ghost use Rattle.feed.specs.Feeding.{whole_of, went_well, ReadOn};

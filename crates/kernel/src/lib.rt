@@ -1,5 +1,6 @@
 // The rack kernel as its users handle it: a value, with a method for each call and declaration.
 #![tactic(auto)]
+
 pub mod clock;
 pub mod declarations;
 pub mod handling;

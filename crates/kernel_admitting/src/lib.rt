@@ -1,6 +1,7 @@
 // Refusals 2 to 7: what bytes, counts and the first accepted call decide of a record.
 // `&` and `|` join tests that are all safe to make.
 #![tactic(auto)]
+
 ghost use Rattle.std.specs.Prelude.{◌≡◌, ◌≤◌};
 ghost use Rattle.calendar.specs.Limits.{day_length};
 ghost use Rattle.record.specs.Refusals.{shape};

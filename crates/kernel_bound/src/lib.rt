@@ -1,5 +1,6 @@
 // How long a waiting task waits: after how many RELEASEs a task that waits for one semaphore is granted.
 #![tactic(auto)]
+
 ghost use Rattle.std.specs.Prelude.{◌≡◌, ◌&&◌, ◌+◌, ◌*◌, ◌<◌, ◌≤◌, ltb, eqb};
 ghost use Rattle.lock.specs.Locks.{same_kind};
 ghost use Rattle.lock.specs.declared.Wait.TheVariants.{Request};

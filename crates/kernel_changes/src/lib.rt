@@ -1,5 +1,6 @@
 // What a call does to the task that it is about and to the locks.
 #![tactic(auto)]
+
 pub mod activate;
 
 ghost use Rattle.std.specs.Prelude.{◌≡◌, ℕ, ◌≤◌, List};

@@ -1,5 +1,6 @@
 // Declarations: the next place of the kind is filled whole.
 #![tactic(auto)]
+
 pub mod fresh;
 
 ghost use Rattle.std.specs.Prelude.{◌≡◌, List, ℕ, ◌<◌};

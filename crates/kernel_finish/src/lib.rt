@@ -1,5 +1,6 @@
 // What ends every accepted call; of ticks and sleeps, those after which somebody may have to be served.
 #![tactic(auto)]
+
 ghost use Rattle.std.specs.Prelude.{◌≡◌, true, List};
 ghost use Rattle.task.specs.declared.Task.{Task};
 ghost use Rattle.machine.specs.NextEvent.{next_event};

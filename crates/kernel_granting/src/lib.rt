@@ -1,5 +1,6 @@
 // What could be granted, and the writers who wait, whom an ENTER lets go first.
 #![tactic(auto)]
+
 ghost use Rattle.std.specs.Prelude.{◌≡◌, true, not, ◌&&◌, List, [], ◌∷◌, ℕ, ◌<◌, ◌≤◌, ltb, take};
 ghost use Rattle.layout.specs.Fields.{most_numbers};
 ghost use Rattle.lock.specs.Locks.{most_locks, same_kind};

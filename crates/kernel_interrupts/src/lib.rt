@@ -1,5 +1,6 @@
 // TRIGGER gives every task its turn, ENABLE and DISABLE none.
 #![tactic(auto)]
+
 ghost use Rattle.std.specs.Prelude.{◌≡◌, true, ◌≤◌, ◌<◌};
 ghost use Rattle.calendar.specs.Limits.{day_length, last_instant};
 ghost use Rattle.task.specs.Turns.{trigger_turn};

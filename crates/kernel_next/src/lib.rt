@@ -1,5 +1,6 @@
 // The next event. In a scan it goes as a number, 0 for none: what is later than now is not 0.
 #![tactic(auto)]
+
 ghost use Rattle.std.specs.Prelude.{◌≡◌, ◌≤◌};
 ghost use Rattle.calendar.specs.Moments.{sooner, first_after};
 ghost use Rattle.calendar.specs.declared.Moment.{Moment};

@@ -1,5 +1,6 @@
 // The order of events: who has one in a call, and who goes to the end for it.
 #![tactic(auto)]
+
 pub mod seen;
 
 ghost use Rattle.std.specs.Prelude.{◌≡◌, not, ◌||◌, List, ℕ, ◌<◌, ◌≤◌};

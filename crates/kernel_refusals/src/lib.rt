@@ -1,5 +1,6 @@
 // Refusals 8 to 15 and 17: what the state decides.
 #![tactic(auto)]
+
 ghost use Rattle.std.specs.Prelude.{◌≡◌};
 ghost use Rattle.record.specs.Refusals.{unless};
 ghost use Rattle.record.specs.Reading.{call_with};

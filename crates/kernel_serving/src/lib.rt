@@ -1,5 +1,6 @@
 // Serving: while somebody waits on a list that could be granted, the most urgent one is granted it.
 #![tactic(auto)]
+
 ghost use Rattle.std.specs.Prelude.{◌≡◌, true, ◌<◌};
 ghost use Rattle.machine.specs.Granting.{servable};
 ghost use Rattle.machine.specs.Serving.{next_served, grant_to};

@@ -1,5 +1,6 @@
 // Sets of tasks as numbers, in which task i counts 2^i.
 #![tactic(auto)]
+
 ghost use Rattle.std.specs.Prelude.{◌≡◌, List, ℕ, ◌<◌};
 ghost use Rattle.task.specs.declared.Task.{Task};
 ghost use Rattle.machine.specs.State.{most_tasks};

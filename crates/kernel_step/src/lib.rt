@@ -1,5 +1,6 @@
 // The step over bytes, equal to the machine's: the kernel test, then what refuses the record, then what its mark does.
 #![tactic(auto)]
+
 ghost use Rattle.std.specs.Prelude.{◌≡◌, true};
 ghost use Rattle.calendar.specs.Limits.{day_length};
 ghost use Rattle.record.specs.Reading.{call_with};

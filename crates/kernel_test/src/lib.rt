@@ -1,5 +1,6 @@
 // The kernel test, refusals 1 and 16. One look at a kernel tells its running task and its next event too.
 #![tactic(auto)]
+
 ghost use Rattle.std.specs.Prelude.{◌≡◌};
 ghost use Rattle.calendar.specs.Limits.{day_length};
 ghost use Rattle.machine.specs.Test.{kernel_refusal};

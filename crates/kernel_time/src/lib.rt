@@ -1,5 +1,6 @@
 // Time passes, by TI and SL: every task has its turn.
 #![tactic(auto)]
+
 ghost use Rattle.std.specs.Prelude.{◌≡◌, true, not, cond, ◌&&◌, eqb, ◌≤◌};
 ghost use Rattle.calendar.specs.Limits.{day_length, last_instant, tick};
 ghost use Rattle.calendar.specs.Times.{duration, plus};

@@ -1,3 +1,4 @@
 // The order of urgency, and who leads a scan of the tasks.
 #![tactic(auto)]
+
 pub mod scan;

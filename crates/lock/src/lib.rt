@@ -1,5 +1,6 @@
 // Semaphores and bolts: what can be taken and given back, one number or a list.
 #![tactic(auto)]
+
 ghost use Rattle.std.specs.Prelude.{◌≡◌, true, ℕ, ◌<◌, ◌≤◌, take, ltb};
 ghost use Rattle.layout.specs.Fields.{most_numbers};
 ghost use Rattle.lists.specs.Lists.{distinct, every};

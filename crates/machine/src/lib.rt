@@ -1,5 +1,6 @@
 // The rack kernel's state, and what a step hands back.
 #![tactic(auto)]
+
 use calendar::{Instant, Moment};
 use lock::{Locks, Wait};
 use task::{Marks, Task};

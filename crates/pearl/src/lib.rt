@@ -1,5 +1,6 @@
 // The statements of a program as calls and declarations, for every value of their fields. Knows no kernel.
 #![tactic(auto)]
+
 pub mod clock;
 pub mod declarations;
 mod fields;

@@ -1,5 +1,6 @@
 // The script program: records from standard input, lines to standard output.
 #![tactic(auto)]
+
 ghost use Rattle.std.specs.Prelude.{◌≡◌, true, ◌≤◌, length};
 ghost use Rattle.calendar.specs.Limits.{day_length};
 ghost use Rattle.machine.specs.Log.{final};

@@ -1,6 +1,7 @@
 // The program that says how long tasks wait: a script from standard input, and after it the lines of the tasks that wait
 // for one semaphore.
 #![tactic(auto)]
+
 ghost use Rattle.std.specs.Prelude.{◌≡◌, ◌≤◌, length};
 ghost use Rattle.calendar.specs.Limits.{day_length};
 ghost use Rattle.machine.specs.Log.{final};

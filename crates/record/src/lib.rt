@@ -1,5 +1,6 @@
 // Records of 24 bytes to calls and declarations, and back. Knows no kernel.
 #![tactic(auto)]
+
 pub mod kinds;
 pub mod reader;
 pub mod shape;

@@ -1,5 +1,6 @@
 // What comes due, and when: one alarm, and a schedule of starts.
 #![tactic(auto)]
+
 pub mod alarms;
 pub mod schedules;
 

@@ -1,5 +1,6 @@
 // A whole script carried on: bytes of any length go in, lines of text come out.
 #![tactic(auto)]
+
 pub mod run;
 
 ghost use Rattle.std.specs.Prelude.{◌≡◌};

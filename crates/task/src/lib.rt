@@ -1,5 +1,6 @@
 // One task: its priorities, wait, hold, kept-back start, schedule and continuation.
 #![tactic(auto)]
+
 pub mod continuations;
 pub mod turns;
 

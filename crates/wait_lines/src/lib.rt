@@ -1,5 +1,6 @@
 // The lines of text for the tasks that wait in a REQUEST of one semaphore.
 #![tactic(auto)]
+
 ghost use Rattle.std.specs.Prelude.{◌+◌, ◌≤◌, length};
 ghost use Rattle.lines.specs.Buffers.{Wrote};
 ghost use Rattle.wait_lines.specs.Text.{wait_line, bound_text, wait_text, line_room, text_room};
