@@ -138,7 +138,7 @@ module _ (day : ℕ) (k : State) (h : StateOk day k) (c : Call) where
         now_ok = h.now_ok;
         clock_ok = h.clock_ok;
         counts_ok_law = record { tasks = omega arith; semaphores = counts.semaphores; bolts = counts.bolts; interrupts = counts.interrupts };
-        bounded = bounded_of _ k.locks values_stay readers_stay;
+        bounded = bounded_of (record { tasks = n + 1; semaphores = k.counts.semaphores; bolts = k.counts.bolts; interrupts = k.counts.interrupts }) k.locks values_stay readers_stay;
         tasks_ok_law = λ i l. by_eq i n (λ z. rw (z, at_new) (fresh_ok day _ q (priority_DT b p)))
             (λ z. rw (get_or-set_other k.tasks n i (fresh_task q) no_task z) (task_more day k.counts _ _ (record { semaphores = omega arith; bolts = omega arith; interrupts = omega arith }) (h.tasks_ok_law i (omega arith))));
         places_ok_law = added_apart n k.places h.places_ok_law (omega (arith, h.tables.places));
@@ -174,7 +174,7 @@ module _ (day : ℕ) (k : State) (h : StateOk day k) (c : Call) where
       let o = h.counts_ok_law in
       added _ (with_value k.locks n v) k.enabled refl (record { tasks = o.tasks; semaphores = omega arith; bolts = o.bolts; interrupts = o.interrupts })
       (record { semaphores = omega arith; bolts = omega arith; interrupts = omega arith }) (size_value k.locks n v) refl
-      (bounded_of _ (with_value k.locks n v)
+      (bounded_of (record { tasks = k.counts.tasks; semaphores = n + 1; bolts = k.counts.bolts; interrupts = k.counts.interrupts }) (with_value k.locks n v)
       (λ s l. by_eq s n (λ z. rw (z, value_same k.locks n v (omega (arith, h.tables.semaphores))) preset) (λ z. rw (value_other k.locks n v s z) (values_stay s (omega arith)))) readers_stay)
       unused
     where
@@ -190,7 +190,7 @@ module _ (day : ℕ) (k : State) (h : StateOk day k) (c : Call) where
       let o = h.counts_ok_law in
       added _ (with_bolt k.locks n empty_bolt) k.enabled refl (record { tasks = o.tasks; semaphores = o.semaphores; bolts = omega arith; interrupts = o.interrupts })
       (record { semaphores = omega arith; bolts = omega arith; interrupts = omega arith }) (size_bolt k.locks n empty_bolt) refl
-      (bounded_of _ (with_bolt k.locks n empty_bolt) values_stay
+      (bounded_of (record { tasks = k.counts.tasks; semaphores = k.counts.semaphores; bolts = n + 1; interrupts = k.counts.interrupts }) (with_bolt k.locks n empty_bolt) values_stay
       (λ b l. by_eq b n (λ z. rw (z, bolt_same k.locks n empty_bolt (omega (arith, h.tables.bolts))) (omega arith)) (λ z. rw (bolt_other k.locks n empty_bolt b z) (readers_stay b (omega arith)))))
       unused
     where
@@ -206,7 +206,7 @@ module _ (day : ℕ) (k : State) (h : StateOk day k) (c : Call) where
       let o = h.counts_ok_law in
       added _ k.locks (set k.enabled n false) refl (record { tasks = o.tasks; semaphores = o.semaphores; bolts = o.bolts; interrupts = omega arith })
       (record { semaphores = omega arith; bolts = omega arith; interrupts = omega arith }) (size_refl k.locks) (length-set k.enabled n false)
-      (bounded_of _ k.locks values_stay readers_stay) (λ w y l. refl)
+      (bounded_of (record { tasks = k.counts.tasks; semaphores = k.counts.semaphores; bolts = k.counts.bolts; interrupts = n + 1 }) k.locks values_stay readers_stay) (λ w y l. refl)
 
   pub clock_set : Passed day DC k c → StateOk day (with_clock c.head.first k)
   unfolding timed

@@ -212,7 +212,7 @@ module _ (k : State) (c : Call) where
   ground_number (Ground.continue_unheld z a h) = rw (z, a, h)
   ground_number (Ground.release_full i r x n v) =
       rw (r, fails (returnable Request k.locks) (named c) x n (le-ltb (value_at k.locks x) most_value (omega arith)))
-  ground_number (Ground.Free-Unwritten i r x n v) = rw (r, fails (returnable Reserve k.locks) (named c) x n v)
+  ground_number (Ground.free_unwritten i r x n v) = rw (r, fails (returnable Reserve k.locks) (named c) x n v)
   ground_number (Ground.leave_unread i r x n v) =
       rw (r, fails (returnable Enter k.locks) (named c) x n (le-ltb 0 (bolt_at k.locks x).readers (omega arith)))
   ground_number (Ground.tick_at_last e) = rw (le-ltb k.now.0 last_instant (omega arith))
@@ -308,7 +308,7 @@ module _ (k : State) (c : Call) (n : ℕ) (some : n ≢ 0) where
       runs OfRunner.free _ e
       (λ i r z. given (every (returnable Reserve k.locks) (named c)) 14 0 n z
       (λ b y. let (x, s, v) = some_fails (returnable Reserve k.locks) (named c) b in
-      as_number (Ground.Free-Unwritten i r x s v) y)
+      as_number (Ground.free_unwritten i r x s v) y)
       (λ b y. none y))
   number_ground ET l e = runs OfRunner.enter 0 e (λ i r z. none z)
   number_ground LV l e =

@@ -272,7 +272,7 @@ module _ (day : ℕ) (is_day : IsDay day) where
         now_ok = omega arith;
         clock_ok = is_day.some;
         counts_ok_law = record { tasks = omega arith; semaphores = omega arith; bolts = omega arith; interrupts = omega arith };
-        bounded = bounded_of _ _ (λ s l. absurd (not-suc-le-zero l)) (λ b l. absurd (not-suc-le-zero l));
+        bounded = bounded_of (record { tasks = 0; semaphores = 0; bolts = 0; interrupts = 0 }) _ (λ s l. absurd (not-suc-le-zero l)) (λ b l. absurd (not-suc-le-zero l));
         tasks_ok_law = λ i l. absurd (not-suc-le-zero l);
         places_ok_law = record { range = λ i l. absurd (not-suc-le-zero l); apart = λ i j l m e. absurd (not-suc-le-zero l) };
         stuck = λ i l. absurd (not-suc-le-zero l);

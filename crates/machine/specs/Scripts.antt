@@ -177,15 +177,15 @@ WHEN n AFTER d CONTINUE i PRIO p = continuing i p 4 n d
 abbrev pub resuming : ℕ → ℕ → ℕ → List ℕ
 resuming k n f = starting RE 0 0 k n 0 f 0 0
 
-infix 20 AT_RESUME AFTER_RESUME WHEN_RESUME WHEN_AFTER_RESUME
-abbrev pub AT_RESUME : ℕ → List ℕ
+infix 20 AT◌RESUME AFTER◌RESUME WHEN◌RESUME WHEN◌AFTER◌RESUME
+abbrev pub AT◌RESUME : ℕ → List ℕ
 AT t RESUME = resuming 1 0 t
 
-abbrev pub AFTER_RESUME : ℕ → List ℕ
+abbrev pub AFTER◌RESUME : ℕ → List ℕ
 AFTER d RESUME = resuming 2 0 d
 
-abbrev pub WHEN_RESUME : ℕ → List ℕ
+abbrev pub WHEN◌RESUME : ℕ → List ℕ
 WHEN n RESUME = resuming 3 n 0
 
-abbrev pub WHEN_AFTER_RESUME : ℕ → ℕ → List ℕ
+abbrev pub WHEN◌AFTER◌RESUME : ℕ → ℕ → List ℕ
 WHEN n AFTER d RESUME = resuming 4 n d

@@ -6,7 +6,7 @@ use Rattle.machine.specs.declared.Answer.{Answer}
 use Rattle.machine.specs.declared.Running.TheVariants.{Idle, Runs}
 use Rattle.machine.specs.State.{task_at}
 use Rattle.machine.specs.Step.{plain_answer}
-use Rattle.machine.specs.Scripts.{row, hours, declare_task, declare_interrupt, activate, terminate, suspend, prevent, resume_after, enable, trigger, one_tick, continuing, resuming, CONTINUE◌PRIO◌, AT◌CONTINUE◌PRIO◌, AFTER◌CONTINUE◌PRIO◌, WHEN◌CONTINUE◌PRIO◌, WHEN◌AFTER◌CONTINUE◌PRIO◌, AT_RESUME, AFTER_RESUME, WHEN_RESUME, WHEN_AFTER_RESUME}
+use Rattle.machine.specs.Scripts.{row, hours, declare_task, declare_interrupt, activate, terminate, suspend, prevent, resume_after, enable, trigger, one_tick, continuing, resuming, CONTINUE◌PRIO◌, AT◌CONTINUE◌PRIO◌, AFTER◌CONTINUE◌PRIO◌, WHEN◌CONTINUE◌PRIO◌, WHEN◌AFTER◌CONTINUE◌PRIO◌, AT◌RESUME, AFTER◌RESUME, WHEN◌RESUME, WHEN◌AFTER◌RESUME}
 use Rattle.machine_cases.specs.Marked.{answers, after, line, quiet}
 
 -- Task 0 of priority 5 runs.

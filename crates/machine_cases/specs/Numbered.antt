@@ -10,7 +10,7 @@ use Rattle.machine.specs.declared.Running.TheVariants.{Idle, Runs}
 use Rattle.machine.specs.State.{with_file, begun_at}
 use Rattle.machine.specs.Step.{step}
 use Rattle.machine.specs.Log.{final}
-use Rattle.machine.specs.Scripts.{row, plain_record, declare_task, declare_semaphore, declare_bolt, declare_interrupt, declare_clock, activate, terminate, suspend, prevent, end, resume_after, request, release, try, reserve, free, enter, leave, trigger, enable, one_tick, sleep, activation, AT◌ACTIVATE◌, AFTER◌ACTIVATE◌, ALL◌DURING◌ACTIVATE◌, WHEN◌AFTER◌ACTIVATE◌, CONTINUE◌PRIO◌, AFTER◌CONTINUE◌PRIO◌, WHEN_RESUME}
+use Rattle.machine.specs.Scripts.{row, plain_record, declare_task, declare_semaphore, declare_bolt, declare_interrupt, declare_clock, activate, terminate, suspend, prevent, end, resume_after, request, release, try, reserve, free, enter, leave, trigger, enable, one_tick, sleep, activation, AT◌ACTIVATE◌, AFTER◌ACTIVATE◌, ALL◌DURING◌ACTIVATE◌, WHEN◌AFTER◌ACTIVATE◌, CONTINUE◌PRIO◌, AFTER◌CONTINUE◌PRIO◌, WHEN◌RESUME}
 use Rattle.machine_cases.specs.Marked.{after}
 
 -- ---- kernels

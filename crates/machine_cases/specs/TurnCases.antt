@@ -8,7 +8,7 @@ use Rattle.machine.specs.declared.Running.{Running}
 use Rattle.machine.specs.declared.Running.TheVariants.{Idle, Runs}
 use Rattle.machine.specs.State.{with_places}
 use Rattle.machine.specs.Step.{plain_answer, step}
-use Rattle.machine.specs.Scripts.{row, declare_task, declare_semaphore, declare_bolt, activate, suspend, end, resume_after, request, release, try, reserve, free, enter, one_tick, ACTIVATE◌PRIO◌, AFTER◌ACTIVATE◌, CONTINUE◌PRIO◌, AT_RESUME, AFTER_RESUME}
+use Rattle.machine.specs.Scripts.{row, declare_task, declare_semaphore, declare_bolt, activate, suspend, end, resume_after, request, release, try, reserve, free, enter, one_tick, ACTIVATE◌PRIO◌, AFTER◌ACTIVATE◌, CONTINUE◌PRIO◌, AT◌RESUME, AFTER◌RESUME}
 use Rattle.machine.specs.Turns.{last_event}
 use Rattle.machine_cases.specs.Marked.{answers, after, line, quiet}
 
