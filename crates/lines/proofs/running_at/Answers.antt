@@ -1,0 +1,30 @@
+-- A space before a dash or before the task.
+use borrow.Author.Rules.{rules}
+use mathlib.Core.Path.{◌∙◌}
+use native.Mathlib.Omega.{arith}
+use lib.ListN.{length-set}
+use Rattle.lines.specs.Lines.{space, dash, running_text}
+use Rattle.lines.proofs.PlacedLaws.{before_text, two_wrote}
+use Rattle.lines.proofs.running_at.Goals as goal
+
+pub bounds-out-at-in-Idle : goal.bounds-out-at-in-Idle
+bounds-out-at-in-Idle c = simp length-set (omega arith)
+
+pub byte_at-requires : goal.byte_at-requires
+byte_at-requires c = simp length-set (omega arith)
+
+pub returns-in-Idle : goal.returns-in-Idle
+unfolding running_text
+returns-in-Idle c =
+    let a = c.args in
+    rw c.in-Idle.is (two_wrote a.out.now a.at space dash (omega arith), omega arith)
+
+pub shape_of-out-in-Runs : goal.shape_of-out-in-Runs
+shape_of-out-in-Runs c = c.byte_at.auto.1.0 ∙ simp length-set
+
+pub returns-in-Runs : goal.returns-in-Runs
+unfolding running_text
+returns-in-Runs c =
+    let w = c.byte_at in
+    let a = c.args in
+    rw c.in-Runs.is (before_text a.out.now a.at space (omega arith) w.ensures.0, omega arith)
