@@ -14,7 +14,7 @@ use denote.Shadow.{shadow}
 use denote.Array.{each}
 use denote.RattleType.{owns, Valss}
 use denote.Struct.Declared.{shape}
-use borrow.Author.Rules.{elem_fits_field}
+use borrow.Author.Rules.{elem_Fits}
 use borrow.Author.Tests.{le-leb}
 use Rattle.record.specs.Refusals.{most_value}
 use Rattle.lock.specs.Locks.{empty_bolt, waiting, value_at, bolt_at}
@@ -38,17 +38,17 @@ Owned k = (v : Valss (shape KernelT.the_type).fields) × shadow (owns (shape Ker
 -- The list of each task of a table that waits.
 lists_long :
     (ts : List Task) (us : List Val) →
-    shadow (each (TaskT.the_field).row.Denot (TaskT.the_field).row.own_val (map (TaskT.the_field).into ts) us) →
+    shadow (each (TaskT.the_row).Denot (TaskT.the_row).own_val ts us) →
     (i : ℕ) → waiting (task_at ts i).wait ≡ true → length (task_at ts i).list ≡ most_numbers
 lists_long [] us p i = λ w. contra w refl
 lists_long (t ∷ ts) [] p i = absurd p
-lists_long (t ∷ ts) (u ∷ us) p zero = λ w. sym (length-map t.list _) ∙ p.0.1.1.1.1.1.1.1.1.0.1.0.1
+lists_long (t ∷ ts) (u ∷ us) p zero = λ w. p.0.1.1.1.1.1.1.1.1.0.1.0.1
 lists_long (t ∷ ts) (u ∷ us) p (suc i) = lists_long ts us p.1 i
 
 -- The priority that the continuation of each task gives.
 givens_fit :
     (ts : List Task) (us : List Val) →
-    shadow (each (TaskT.the_field).row.Denot (TaskT.the_field).row.own_val (map (TaskT.the_field).into ts) us) →
+    shadow (each (TaskT.the_row).Denot (TaskT.the_row).own_val ts us) →
     (i : ℕ) → (task_at ts i).given < 256
 givens_fit [] us p i = omega arith
 givens_fit (t ∷ ts) [] p i = absurd p
@@ -58,7 +58,7 @@ givens_fit (t ∷ ts) (u ∷ us) p (suc i) = givens_fit ts us p.1 i
 -- The readers of each bolt of a table.
 readers_fit :
     (bs : List Bolt) (us : List Val) →
-    shadow (each (BoltT.the_field).row.Denot (BoltT.the_field).row.own_val (map (BoltT.the_field).into bs) us) →
+    shadow (each (BoltT.the_row).Denot (BoltT.the_row).own_val bs us) →
     (i : ℕ) → (get_or bs i empty_bolt).readers < 65536
 readers_fit [] us p i = omega arith
 readers_fit (b ∷ bs) [] p i = absurd p
@@ -69,11 +69,11 @@ module _ (k : State) (g : Owned k) where
   pub tables_long : Tables k
   tables_long =
       record {
-        tasks = sym (length-map k.tasks _) ∙ g.1.0.1.0.1;
-        places = let l = g.1.1.0 in sym (length-map k.places _) ∙ l.1.0.1;
-        semaphores = let l = g.1.1.1.0.1.1.0 in sym (length-map k.locks.semaphores _) ∙ l.1.0.1;
-        bolts = let l = g.1.1.1.0.1.1.1.0 in sym (length-map k.locks.bolts _) ∙ l.1.0.1;
-        enabled = let l = g.1.1.1.1.0 in sym (length-map k.enabled _) ∙ l.1.0.1;
+        tasks = g.1.0.1.0.1;
+        places = let l = g.1.1.0 in l.1.0.1;
+        semaphores = let l = g.1.1.1.0.1.1.0 in l.1.0.1;
+        bolts = let l = g.1.1.1.0.1.1.1.0 in l.1.0.1;
+        enabled = let l = g.1.1.1.1.0 in l.1.0.1;
       }
 
   pub tasks_long : length k.tasks ≡ most_tasks
@@ -88,7 +88,7 @@ module _ (k : State) (g : Owned k) where
   value_fits : (i : ℕ) → value_at k.locks i < 65536
   value_fits i =
       let l = g.1.1.1.0.1.1.0 in
-      (elem_fits_field w16 w16 k.locks.semaphores l.0 i l.1.1 tt).fits
+      (elem_Fits w16 w16 k.locks.semaphores l.0 i l.1.1 tt).fits
 
   bolt_fits : (i : ℕ) → (bolt_at k.locks i).readers < 65536
   bolt_fits i = let l = g.1.1.1.0.1.1.1.0 in readers_fit k.locks.bolts l.0 l.1.1 i

@@ -1,6 +1,5 @@
 -- A task that doesn't count, or whose priority is behind the lead's, leaves the lead as it was.
 use borrow.Author.Rules.{rules}
-use borrow.Author.Tests.{not-true, not-false}
 use mathlib.Core.Path.{sym, ◌∙◌}
 use Prim.Native.Nat.{◌+◌, ◌*◌}
 use native.Mathlib.Omega.{arith}
@@ -11,7 +10,7 @@ use Rattle.kernel_urgency.proofs.scan.Lead.against_if.Goals as goal
 
 pub returns-then-not-counts : goal.returns-then-not-counts
 unfolding against
-returns-then-not-counts c = record { place = search rules; small = omega arith; lead = rw (not-true c.args.counts c.if-not-counts.true) }
+returns-then-not-counts c = record { place = search rules; small = omega arith; lead = rw (c.if-not-counts.true) }
 
 pub returns-then-self-current : goal.returns-then-self-current
 returns-then-self-current c =
@@ -24,4 +23,4 @@ returns-then-self-current c =
 
 pub returns : goal.returns
 returns c =
-    weighed (search rules) c.urgency_of.ensures (c.against.ensures ∙ rw (not-false c.args.counts c.if-not-counts.false))
+    weighed (search rules) c.urgency_of.ensures (c.against.ensures ∙ rw (c.if-not-counts.false))
