@@ -15,7 +15,13 @@ bounds-k-i c = omega (arith, places_fit c.args.k c.requires.k_value, c.requires.
 pub move_all-left-requires : goal.move_all-left-requires
 move_all-left-requires c =
     let k = c.args.k in
-    (((let k = c.args.k in listed k c.requires.k_value c.args.i c.requires.i_lt_tasks (served_waits k.counts.tasks (served k 0) c.args.i c.requires.i_value))).short, (((let k = c.args.k in listed k c.requires.k_value c.args.i c.requires.i_lt_tasks (served_waits k.counts.tasks (served k 0) c.args.i c.requires.i_value))).below, (((let k = c.args.k in listed k c.requires.k_value c.args.i c.requires.i_lt_tasks (served_waits k.counts.tasks (served k 0) c.args.i c.requires.i_value))).once, served_free k.counts.tasks (served k 0) c.args.i c.requires.i_value)))
+    let l = listed k c.requires.k_value c.args.i c.requires.i_lt_tasks (served_waits k.counts.tasks (served k 0) c.args.i c.requires.i_value) in
+    record {
+      n_le_most_numbers = l.short;
+      list_value = l.below;
+      list_value_2 = l.once;
+      list_value_3 = served_free k.counts.tasks (served k 0) c.args.i c.requires.i_value;
+    }
 
 pub offset_bounds-k-i-2 : goal.offset_bounds-k-i-2
 offset_bounds-k-i-2 c =

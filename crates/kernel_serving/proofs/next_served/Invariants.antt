@@ -31,7 +31,7 @@ abbrev pub decreases-loop-j : goal.decreases-loop-j
 decreases-loop-j l = l.m - l.j
 
 abbrev pub invariant-tasks : goal.invariant-tasks
-invariant-tasks l = (l.i ≤ l.n) × Led l.i (can_serve l.k) (urge l.k) l.lead × Known l.n l.k.tasks l.writers
+invariant-tasks l = (l.i ≤ l.n) × Led l.i ((servable l.k.counts.tasks l.k.tasks l.k.locks)) (urgency l.k.places l.k.tasks) l.lead × Known l.n l.k.tasks l.writers
 
 abbrev pub decreases-tasks : goal.decreases-tasks
 decreases-tasks l = l.n - l.i

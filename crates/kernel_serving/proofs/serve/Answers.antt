@@ -25,20 +25,25 @@ returns-in_default c =
     serves_idle h ((sym c.next_served-next.ensures ∙ c.in_default.is))
 
 pub grant_to-now-requires : goal.grant_to-now-requires
-grant_to-now-requires c = record { k_value = c.loop-turn.invariant.1.waits; i_lt_tasks = ((next_right ((c.loop-turn.now)).counts.tasks ((c.loop-turn.now)).places (served ((c.loop-turn.now)) 0) c.in-Runs.i ((sym c.next_served-next.ensures ∙ c.in-Runs.is)))).0; i_value = ((next_right (k_of (in_p c)).counts.tasks (k_of (in_p c)).places (served (k_of (in_p c)) 0) (i_of c) (next (in_p c) c.in-Runs.is))).1 }
+grant_to-now-requires c =
+    let k = c.loop-turn.now in
+    let r = next_right k.counts.tasks k.places (served k 0) c.in-Runs.i (sym c.next_served-next.ensures ∙ c.in-Runs.is) in
+    record { k_value = c.loop-turn.invariant.1.waits; i_lt_tasks = r.0; i_value = r.1 }
 
 pub put_task-g-requires : goal.put_task-g-requires
 put_task-g-requires c =
-    omega (arith, ((next_right ((c.loop-turn.now)).counts.tasks ((c.loop-turn.now)).places (served ((c.loop-turn.now)) 0) c.in-Runs.i ((sym c.next_served-next.ensures ∙ c.in-Runs.is)))).0, places_fit c.loop-turn.now c.loop-turn.inv.1.waits)
+    let k = c.loop-turn.now in
+    let r = next_right k.counts.tasks k.places (served k 0) c.in-Runs.i (sym c.next_served-next.ensures ∙ c.in-Runs.is) in
+    omega (arith, r.0, places_fit c.loop-turn.now c.loop-turn.invariant.1.waits)
 
 pub loop-turn-preserved : goal.loop-turn-preserved
 loop-turn-preserved c =
     let l = c.loop-turn in
-    let m = c.loop-turn-test.taken in
-    let h = l.inv.1 in (
+    let m = c.loop-turn-test.true in
+    let h = l.invariant.1 in (
       omega (arith, m),
       rw (c.grant_to-now.ensures, c.put_task-g.ensures)
-          (serves_turn h c.in-Runs.i _ (omega (arith, m)) ((sym c.next_served-next.ensures ∙ c.in-Runs.is))),
+          (serves_turn h c.in-Runs.i _ (omega (arith, m)) (sym c.next_served-next.ensures ∙ c.in-Runs.is)),
     )
 
 pub returns : goal.returns
