@@ -1,6 +1,6 @@
 -- The survey of a kernel: what one task adds, and what the whole says.
 use mathlib.Core.Path.{◌≡◌, ◌∙◌}
-use mathlib.Core.Bool.{true, false}
+use mathlib.Core.Bool.{Bool, true, false}
 use mathlib.Core.List.{List}
 use Prim.Native.Nat.{ℕ, ◌+◌, ◌*◌, ◌≤◌, ◌<◌}
 use native.Mathlib.Nat.{le_antisymm}
@@ -49,6 +49,11 @@ module _ (now : Instant) (m : Moment) {w : Moment} (b : ℕ) (e : moment_of b �
 
   pub sooner_same : {c : ℕ} → c ≡ b → m ≡ Never → moment_of c ≡ sooner now m w
   sooner_same q f = rw (q, f, e)
+
+-- A part of a task that passed its test, and the scan's next event after it.
+pub record Part (ok : Bool) (now : Instant) (m : Moment) (before after : ℕ) : Type 0 where
+  pub passes : ok ≡ true
+  pub comes : moment_of after ≡ sooner now m (moment_of before)
 
 -- A task at ease is held against the lead if it lives, and one that isn't leaves the lead as it was.
 module _ (ps : List ℕ) (ts : List Task) (i : ℕ) {lead : Lead} (h : Led i (can_run ts) (urgency ps ts) lead) where

@@ -1,5 +1,4 @@
 -- By the survey, held against the file.
-use borrow.Author.Rules.{rules}
 use Rattle.calendar.specs.Limits.{day_length}
 use Rattle.kernel_test.proofs.Surveying.{said_number}
 use Rattle.kernel_test.proofs.kernel_refusal.Goals as goal
