@@ -25,15 +25,18 @@ use Rattle.machine.specs.Refusals.{refusal_by}
 use Rattle.machine.specs.Calls.{work_of}
 use Rattle.machine.specs.Work.{Work, changed, turns, every_turn}
 use Rattle.machine.specs.Whole.{Asked}
-use Rattle.machine.specs.Rules.{MarksNameSets, TryGoesOn, EqualWriterGoesBefore, LaterContinueIsTaken, GrantedIf, GrantedIffOpen}
+use Rattle.machine.specs.Rules.{MarksNameSets, TurnsMarkSets, TryGoesOn, EqualWriterGoesBefore, LaterContinueIsTaken, GrantedIf, GrantedIffOpen}
 use Rattle.machine.proofs.Below.{all_at, all_from}
 use Rattle.machine.proofs.SetLaws.{members_each, has_only, has_only_other}
 use Rattle.machine.proofs.Works.{set_at, set_beyond}
 use Rattle.machine.proofs.Whole.{asks_whole}
 
 pub marks_name_sets : MarksNameSets
+marks_name_sets i m = refl
+
+pub turns_mark_sets : TurnsMarkSets
 unfolding changed every_turn
-marks_name_sets =
+turns_mark_sets =
     record {
       one = λ k i c x. rw (members_each x (λ y. only i (mark y c.marks))) (has_only i (mark x c.marks));
       others = λ k i c x j ne. rw (members_each x (λ y. only i (mark y c.marks))) (has_only_other i j (mark x c.marks) ne);
@@ -43,7 +46,7 @@ marks_name_sets =
       beyond = λ k n f x i room l.
           ap (has i) (members_each x (λ y. set_of (map (λ (u : Turn). mark y u.marks) (turns k.counts.tasks f k.tasks))))
           ∙ set_beyond k.counts.tasks f k.tasks room (λ u. mark x u.marks) i l;
-      named = λ i m. refl;
+      named = marks_name_sets;
       five = λ s. refl;
     }
 

@@ -61,7 +61,7 @@ use Rattle.machine.proofs.Passed.{refusal_of, Passed, passed, unrefused}
 use Rattle.machine.proofs.Sorts.{listing, other_mark, continue_mark, end_mark, tick_mark}
 use Rattle.machine.proofs.SetLaws.{no_members, unmarked_none, has_empty}
 use Rattle.machine.proofs.Cases.{out_cases, declaration_cases}
-use Rattle.machine.proofs.Rules.{marks_name_sets}
+use Rattle.machine.proofs.Rules.{turns_mark_sets}
 use Rattle.machine.proofs.Serving.{grant_at, grant_other, serve_keeps}
 use Rattle.machine.proofs.Accepted.{hold_on, finish_keeps, in_table, table, no_refusal, step_out, one_at, every_at}
 use Rattle.machine.proofs.Continuing.{sched}
@@ -201,13 +201,13 @@ module _ (day : ℕ) (k : State) (v : valid day k ≡ true) (c : Call) (p : Pass
       (λ z. record {
         turn = record { task = (x t).task; marks = (x t).marks };
         at = rw z (one_at k j (x (task_at k.tasks j)) (in_table day k v j (rw z at l)));
-        sets = λ y. rw z (marks_name_sets.one k j (x (task_at k.tasks j)) y);
+        sets = λ y. rw z (turns_mark_sets.one k j (x (task_at k.tasks j)) y);
         fits = f z w.now;
       })
       (λ z. record {
         turn = unmarked t;
         at = unfold changed in get_or-set_other k.tasks j i (x (task_at k.tasks j)).task no_task z;
-        sets = λ y. rw (unmarked_none y t) (marks_name_sets.others k j (x (task_at k.tasks j)) y i z);
+        sets = λ y. rw (unmarked_none y t) (turns_mark_sets.others k j (x (task_at k.tasks j)) y i z);
         fits = g z w.now;
       })
 
@@ -225,7 +225,7 @@ module _ (day : ℕ) (k : State) (v : valid day k ≡ true) (c : Call) (p : Pass
       record {
         turn = f t;
         at = every_at k n f (table day k v) i l;
-        sets = λ y. marks_name_sets.each k n f y i (table day k v) l;
+        sets = λ y. turns_mark_sets.each k n f y i (table day k v) l;
         fits = unfold every_turn in x;
       }
 

@@ -1,7 +1,7 @@
 -- What touches no continuation leaves it as it is: one step, and a list of records.
-use mathlib.Core.Path.{◌≡◌, refl}
+use mathlib.Core.Path.{◌≡◌, refl, ◌∙◌}
 use mathlib.Core.Bool.{true, false, ◌&&◌, ◌||◌, and-true}
-use mathlib.Core.List.{List}
+use mathlib.Core.List.{List, [], ◌∷◌}
 use Prim.Native.Nat.{ℕ}
 use native.Mathlib.Omega.{arith}
 use lib.Dec.{eqb}
@@ -13,6 +13,9 @@ use Rattle.layout.specs.declared.Head.{Head}
 use Rattle.layout.specs.declared.Mark.{Mark}
 use Rattle.layout.specs.declared.Mark.TheVariants.{AC, TE, SU, PR, CO, RE, TG, TI, SL}
 use Rattle.record.specs.Refusals.{scheduled, named}
+use Rattle.record.specs.Reading.{opened}
+use Rattle.record.specs.declared.Read.{Read}
+use Rattle.record.specs.declared.Read.TheVariants.{Refused, Accepted}
 use Rattle.lock.specs.declared.Wait.{Wait}
 use Rattle.facts.proofs.Bools.{by_bool, neither}
 use Rattle.task.specs.State.{wait_for}
@@ -27,7 +30,8 @@ use Rattle.machine.specs.Running.{runner}
 use Rattle.machine.specs.Sorts.{sort_of}
 use Rattle.machine.specs.Activation.{activate_by, continue_by, resume_by}
 use Rattle.machine.specs.Calls.{named_turn, runner_turn, arrival}
-use Rattle.machine.specs.Continuing.{is_runner, touches, NothingElse, StaysOverLists}
+use Rattle.machine.specs.Step.{step}
+use Rattle.machine.specs.Continuing.{is_runner, touches, touches_by, disturbs, NothingElse, undisturbed, StaysOverLists, met_by, meets, unmet}
 use Rattle.machine.proofs.Sorts.{continue_mark, tick_mark}
 use Rattle.machine.proofs.Untouched.{Left, step_stays, list_stays}
 
@@ -92,8 +96,23 @@ left day k c i e =
 waits : (w : Wait) (n : ℕ) (l : List ℕ) (t : Task) → SameContinuation t (wait_for w n l t)
 waits w n l t = has (wait_for w n l t)
 
+-- What touches a continuation, as a test of calls.
+touches_met : (k : State) (r : Read) (l : List ℕ) (i : ℕ) → met_by touches k r l i ≡ touches_by k r l i
+touches_met k (Refused n) l i = refl
+touches_met k (Accepted h) l i = refl
+
+disturbs_meets : (day : ℕ) (k : State) (s : List ℕ) (i : ℕ) → meets touches day k s i ≡ disturbs day k s i
+disturbs_meets day k s i = rw (touches_met k (opened s).answer (opened s).list i) refl
+
+pub undisturbed_unmet : (day i : ℕ) (k : State) (rs : List (List ℕ)) → unmet touches day i k rs ≡ undisturbed day i k rs
+unfolding unmet undisturbed
+undisturbed_unmet day i k [] = refl
+undisturbed_unmet day i k (r ∷ rs) = rw (disturbs_meets day k r i, undisturbed_unmet day i (step day k r).state rs) refl
+
 pub nothing_else : NothingElse
-nothing_else day k s i l e = step_stays SameContinuation same_then waits touches left day k i l s e
+nothing_else day k s i l e =
+    step_stays SameContinuation same_then waits touches left day k i l s (disturbs_meets day k s i ∙ e)
 
 pub stays_over_lists : StaysOverLists
-stays_over_lists = list_stays SameContinuation same_then waits touches left
+stays_over_lists day k rs i l e =
+    list_stays SameContinuation same_then waits touches left day k rs i l (undisturbed_unmet day i k rs ∙ e)

@@ -1,4 +1,4 @@
--- A continuation comes due in any arrival at its instant.
+-- A continuation comes due in the tick to its instant, and in any arrival at it.
 use mathlib.Core.Path.{◌≡◌, refl, ap}
 use mathlib.Core.Bool.{true}
 use mathlib.Core.List.{List, [], ◌∷◌, ◌++◌}
@@ -20,7 +20,7 @@ use Rattle.machine.specs.Log.{AllOctets, final, log}
 use Rattle.machine.specs.Invariants.{IsDay, Passes}
 use Rattle.machine.specs.Scripts.{row, one_tick}
 use Rattle.machine.specs.Quiet.{later}
-use Rattle.machine.specs.Continuing.{DueInTime, DueAfterTicks, PromiseKept, PromiseByTick}
+use Rattle.machine.specs.Continuing.{DueInTime, DueAfterTicks, PromiseKept, DueOnArrival, PromiseOnArrival}
 use Rattle.machine.proofs.Rows.{row_split, log_append, final_append}
 use Rattle.machine.proofs.Invariants.{step_passes}
 use Rattle.machine.proofs.Quiet.{ticks_are_quiet, later_as}
@@ -38,13 +38,18 @@ next_falls a x e =
 
 -- ---- one arrival
 
-pub due_in_time : DueInTime
-due_in_time day k s i x l e a =
+pub due_on_arrival : DueOnArrival
+due_on_arrival day k s i x l e a =
     record {
       number = a.accepts.number;
       fires = fires_on _ _ (arrives_turn day k s x a i l)
           (turned.tick x (task_at k.tasks i) (task_ok_law day k a.accepts.tested i l).rests (next_falls (task_at k.tasks i).continuation x e));
     }
+
+pub due_in_time : DueInTime
+due_in_time day k i x room v l e q m =
+    let d = due_on_arrival day k one_tick i x l e (tick_arrives day k x room v q m) in
+    record { number = d.number; fires = d.fires }
 
 -- ---- after d quiet ticks
 
@@ -60,8 +65,7 @@ due_after_ticks day d k i x room v l e q n m =
     let a = later_as day d k v q (omega arith) in
     let z = later d k in
     let t : task_at z.tasks i ≡ task_at k.tasks i = ap (λ (ts : List Task). task_at ts i) a.tasks in
-    let y = due_in_time day z one_tick i x (rw a.counts l) (rw a.tasks e)
-    (tick_arrives day z x (rw a.tasks room) a.tested (omega (arith, a.now)) m) in
+    let y = due_in_time day z i x (rw a.tasks room) a.tested (rw a.counts l) (rw a.tasks e) (omega (arith, a.now)) m in
     record {
       answers = rw (one_more d, log_append day k (row d one_tick) (one_tick ∷ []), r.answers, r.state);
       number = y.number;
@@ -81,14 +85,15 @@ unfolding final
 final_declared day k i l [] = l
 final_declared day k i l (r ∷ rs) = final_declared day (step day k r).state i (still_declared day k i l r) rs
 
-pub promise_kept : PromiseKept
-promise_kept day k rs i x l e u s a =
+pub promise_on_arrival : PromiseOnArrival
+promise_on_arrival day k rs i x l e u s a =
     let z = final day k rs in
     let h = stays_over_lists day k rs i l u in
-    (h, due_in_time day z s i x (final_declared day k i l rs) (rw h.alarm e) a)
+    (h, due_on_arrival day z s i x (final_declared day k i l rs) (rw h.alarm e) a)
 
-pub promise_by_tick : PromiseByTick
-promise_by_tick day is_day k p rs o i x l e u q m =
+pub promise_kept : PromiseKept
+promise_kept day is_day k p rs o i x l e u q m =
     let z = final day k rs in
     let f = final_passes day is_day k p rs o in
-    (promise_kept day k rs i x l e u one_tick (tick_arrives day z x f.tables.tasks f.tested q m)).1
+    let s = stays_over_lists day k rs i l u in
+    (s, due_in_time day z i x f.tables.tasks f.tested (final_declared day k i l rs) (rw s.alarm e) q m)

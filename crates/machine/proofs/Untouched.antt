@@ -39,7 +39,7 @@ use Rattle.machine.specs.Test.{valid, kernel_refusal}
 use Rattle.machine.specs.Calls.{add_task, add_semaphore, add_bolt, add_interrupt, declaration, named_turn, runner_turn, ask_for, change_of, trigger_in, interrupt_by, arrive, arrival, work_by, work_of}
 use Rattle.machine.specs.Step.{answered, finish, declared, or_refuse, carry_out, step}
 use Rattle.machine.specs.Log.{final}
-use Rattle.machine.specs.Continuing.{Touch, SameButWait, touches_by, disturbs, undisturbed, task_after}
+use Rattle.machine.specs.Continuing.{Touch, SameButWait, met_by, meets, unmet, task_after}
 use Rattle.machine.proofs.Filing.{taken_valid}
 use Rattle.machine.proofs.Passed.{refusal_of, Passed, passed, unrefused}
 use Rattle.machine.proofs.Cases.{out_cases, done_number, declaration_cases, carried_by, step_opened, step_on, step_cases}
@@ -187,7 +187,7 @@ module _ (R : Task → Task → Type 0) (next : (t u v : Task) → R t u → R u
 
       -- So are bytes.
       opened_stays : valid day k ≡ true → (r : Read) (ls : List ℕ) (z : Stepped) → z ≡ step_opened day k r ls
-          → (eqb z.answer.number 0 && touches_by touch k r ls i) ≡ false → Stays z.state
+          → (eqb z.answer.number 0 && met_by touch k r ls i) ≡ false → Stays z.state
       opened_stays v (Refused n) ls z q e = rw q (unfold answered in own (task_at k.tasks i))
       opened_stays v (Accepted h) ls z q e =
           let c = call_with h ls in
@@ -199,7 +199,7 @@ module _ (R : Task → Task → Type 0) (next : (t u v : Task) → R t u → R u
       unfolding step answered
       away_stays n v s = rw v (own (task_at k.tasks i))
 
-      pub step_stays : (s : List ℕ) → disturbs touch day k s i ≡ false → R (task_at k.tasks i) (task_after day k s i)
+      pub step_stays : (s : List ℕ) → meets touch day k s i ≡ false → R (task_at k.tasks i) (task_after day k s i)
       step_stays s e = go (kernel_refusal day k) refl
         where
           go : (n : ℕ) → kernel_refusal day k ≡ n → R (task_at k.tasks i) (task_after day k s i)
@@ -208,11 +208,11 @@ module _ (R : Task → Task → Type 0) (next : (t u v : Task) → R t u → R u
 
     -- ---- a list of records
 
-    pub list_stays : (day : ℕ) (k : State) (rs : List (List ℕ)) (i : ℕ) → i < k.counts.tasks → undisturbed touch day i k rs ≡ true
+    pub list_stays : (day : ℕ) (k : State) (rs : List (List ℕ)) (i : ℕ) → i < k.counts.tasks → unmet touch day i k rs ≡ true
         → R (task_at k.tasks i) (task_at (final day k rs).tasks i)
-    unfolding undisturbed final
+    unfolding unmet final
     list_stays day k [] i l e = own (task_at k.tasks i)
     list_stays day k (r ∷ rs) i l e =
-        let a = both (not (disturbs touch day k r i)) _ e in
+        let a = both (not (meets touch day k r i)) _ e in
         next (task_at k.tasks i) (task_after day k r i) _ (step_stays day k i l r (not-true _ a.0))
         (list_stays day (step day k r).state rs i (still_declared day k i l r) a.1)

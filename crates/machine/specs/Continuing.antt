@@ -127,39 +127,93 @@ touches k c i =
     || (is m TG && enabled_at k h.number && listens h.number a)
     || ((is m TI || is m SL) && falls (arrival m k) a)
 
+-- What was opened is such a call.
+abbrev pub touches_by : State → Read → List ℕ → ℕ → Bool
+touches_by k (Refused n) l i = false
+touches_by k (Accepted h) l i = touches k (call_with h l) i
+
+-- Bytes disturb it if they open to such a call and are accepted.
+abbrev pub disturbs : ℕ → State → List ℕ → ℕ → Bool
+disturbs day k s i = eqb (step day k s).answer.number 0 && touches_by k (opened s).answer (opened s).list i
+
+-- Whatever the kernel and the bytes: a step that doesn't disturb a declared task's continuation leaves it as it is.
+abbrev pub NothingElse : Type 0
+NothingElse =
+    (day : ℕ) (k : State) (s : List ℕ) (i : ℕ) → i < k.counts.tasks → disturbs day k s i ≡ false
+    → SameContinuation (task_at k.tasks i) (task_after day k s i)
+
+-- No record of a list disturbs it.
+unfoldable pub undisturbed : ℕ → ℕ → State → List (List ℕ) → Bool
+undisturbed day i k [] = true
+undisturbed day i k (r ∷ rs) = not (disturbs day k r i) && undisturbed day i (step day k r).state rs
+
+-- Then it is the same after the list.
+abbrev pub StaysOverLists : Type 0
+StaysOverLists =
+    (day : ℕ) (k : State) (rs : List (List ℕ)) (i : ℕ) → i < k.counts.tasks → undisturbed day i k rs ≡ true
+    → SameContinuation (task_at k.tasks i) (task_at (final day k rs).tasks i)
+
+-- ---- it comes due
+
+-- The tick to x: accepted, and the continuation of task i comes due.
+pub record Due (day : ℕ) (k : State) (i : ℕ) (x : Instant) : Type 0 where
+  pub number : (step day k one_tick).answer.number ≡ 0
+  pub fires : Fires x (task_at k.tasks i) (task_after day k one_tick i)
+
+-- A continuation that pends at x comes due in the tick to x.
+abbrev pub DueInTime : Type 0
+DueInTime =
+    (day : ℕ) (k : State) (i : ℕ) (x : Instant) → length k.tasks ≡ most_tasks → kernel_refusal day k ≡ 0
+    → i < k.counts.tasks → next_of (task_at k.tasks i).continuation ≡ At x
+    → k.now.0 + 1 ≡ x.0 → x.0 ≤ last_instant
+    → Due day k i x
+
+-- d ticks are quiet, and in the next the continuation of task i comes due.
+pub record DueAfter (day d : ℕ) (k : State) (i : ℕ) (x : Instant) : Type 0 where
+  pub answers : log day k (row (suc d) one_tick)
+      ≡ row d (quiet_tick k) ++ record { bytes = one_tick; answer = (step day (later d k) one_tick).answer } ∷ []
+  pub number : (step day (later d k) one_tick).answer.number ≡ 0
+  pub fires : Fires x (task_at k.tasks i) (task_at (final day k (row (suc d) one_tick)).tasks i)
+
+-- A continuation that pends at x, with nothing to come before.
+abbrev pub DueAfterTicks : Type 0
+DueAfterTicks =
+    (day d : ℕ) (k : State) (i : ℕ) (x : Instant) → length k.tasks ≡ most_tasks → kernel_refusal day k ≡ 0
+    → i < k.counts.tasks → next_of (task_at k.tasks i).continuation ≡ At x
+    → Quiet d k → k.now.0 + d + 1 ≡ x.0 → x.0 ≤ last_instant
+    → DueAfter day d k i x
+
+-- The promise: a continuation that pends at x and that no record of a list disturbs comes due in the tick to x, as it was
+-- asked for.
+abbrev pub PromiseKept : Type 0
+PromiseKept =
+    (day : ℕ) → IsDay day → (k : State) → Passes day k → (rs : List (List ℕ)) → AllOctets rs
+    → (i : ℕ) (x : Instant) → i < k.counts.tasks → next_of (task_at k.tasks i).continuation ≡ At x
+    → undisturbed day i k rs ≡ true
+    → let z = final day k rs in z.now.0 + 1 ≡ x.0 → x.0 ≤ last_instant
+    → SameContinuation (task_at k.tasks i) (task_at z.tasks i) × Due day z i x
+
+-- ---- any test of calls
+
 -- A test of calls: whether one, accepted by a kernel, touches something of a task.
 abbrev pub Touch : Type 0
 Touch = State → Call → ℕ → Bool
 
 -- What was opened is such a call.
-abbrev pub touches_by : Touch → State → Read → List ℕ → ℕ → Bool
-touches_by touch k (Refused n) l i = false
-touches_by touch k (Accepted h) l i = touch k (call_with h l) i
+abbrev pub met_by : Touch → State → Read → List ℕ → ℕ → Bool
+met_by touch k (Refused n) l i = false
+met_by touch k (Accepted h) l i = touch k (call_with h l) i
 
--- Bytes disturb it if they open to such a call and are accepted.
-abbrev pub disturbs : Touch → ℕ → State → List ℕ → ℕ → Bool
-disturbs touch day k s i =
-    eqb (step day k s).answer.number 0 && touches_by touch k (opened s).answer (opened s).list i
+-- Bytes meet a test if they open to such a call and are accepted.
+abbrev pub meets : Touch → ℕ → State → List ℕ → ℕ → Bool
+meets touch day k s i = eqb (step day k s).answer.number 0 && met_by touch k (opened s).answer (opened s).list i
 
--- Whatever the kernel and the bytes: a step that doesn't disturb a declared task's continuation leaves it as it is.
-abbrev pub NothingElse : Type 0
-NothingElse =
-    (day : ℕ) (k : State) (s : List ℕ) (i : ℕ) → i < k.counts.tasks → disturbs touches day k s i ≡ false
-    → SameContinuation (task_at k.tasks i) (task_after day k s i)
+-- No record of a list meets it.
+unfoldable pub unmet : Touch → ℕ → ℕ → State → List (List ℕ) → Bool
+unmet touch day i k [] = true
+unmet touch day i k (r ∷ rs) = not (meets touch day k r i) && unmet touch day i (step day k r).state rs
 
--- No record of a list disturbs it.
-unfoldable pub undisturbed : Touch → ℕ → ℕ → State → List (List ℕ) → Bool
-undisturbed touch day i k [] = true
-undisturbed touch day i k (r ∷ rs) =
-    not (disturbs touch day k r i) && undisturbed touch day i (step day k r).state rs
-
--- Then it is the same after the list.
-abbrev pub StaysOverLists : Type 0
-StaysOverLists =
-    (day : ℕ) (k : State) (rs : List (List ℕ)) (i : ℕ) → i < k.counts.tasks → undisturbed touches day i k rs ≡ true
-    → SameContinuation (task_at k.tasks i) (task_at (final day k rs).tasks i)
-
--- ---- it comes due
+-- ---- it comes due in a tick or a sleep
 
 -- A tick or a sleep that k accepts and that leads to x.
 pub record Arrives (day : ℕ) (k : State) (s : List ℕ) (x : Instant) : Type 0 where
@@ -181,46 +235,22 @@ SleepArrives =
     → k.file.next ≡ At x → x.0 ≤ last_instant → Arrives day k sleep x
 
 -- The arrival s at x: accepted, and the continuation of task i comes due.
-pub record Due (day : ℕ) (k : State) (s : List ℕ) (i : ℕ) (x : Instant) : Type 0 where
+pub record DueOn (day : ℕ) (k : State) (s : List ℕ) (i : ℕ) (x : Instant) : Type 0 where
   pub number : (step day k s).answer.number ≡ 0
   pub fires : Fires x (task_at k.tasks i) (task_after day k s i)
 
 -- A continuation that pends at x comes due in any arrival at x.
-abbrev pub DueInTime : Type 0
-DueInTime =
+abbrev pub DueOnArrival : Type 0
+DueOnArrival =
     (day : ℕ) (k : State) (s : List ℕ) (i : ℕ) (x : Instant) → i < k.counts.tasks
     → next_of (task_at k.tasks i).continuation ≡ At x → Arrives day k s x
-    → Due day k s i x
+    → DueOn day k s i x
 
--- d ticks are quiet, and in the next the continuation of task i comes due.
-pub record DueAfter (day d : ℕ) (k : State) (i : ℕ) (x : Instant) : Type 0 where
-  pub answers : log day k (row (suc d) one_tick)
-      ≡ row d (quiet_tick k) ++ record { bytes = one_tick; answer = (step day (later d k) one_tick).answer } ∷ []
-  pub number : (step day (later d k) one_tick).answer.number ≡ 0
-  pub fires : Fires x (task_at k.tasks i) (task_at (final day k (row (suc d) one_tick)).tasks i)
-
--- A continuation that pends at x, with nothing to come before.
-abbrev pub DueAfterTicks : Type 0
-DueAfterTicks =
-    (day d : ℕ) (k : State) (i : ℕ) (x : Instant) → length k.tasks ≡ most_tasks → kernel_refusal day k ≡ 0
-    → i < k.counts.tasks → next_of (task_at k.tasks i).continuation ≡ At x
-    → Quiet d k → k.now.0 + d + 1 ≡ x.0 → x.0 ≤ last_instant
-    → DueAfter day d k i x
-
--- The promise: a continuation that pends at x and that no record of a list disturbs comes due in any arrival at x, as it
--- was asked for.
-abbrev pub PromiseKept : Type 0
-PromiseKept =
+-- The promise for any kernel: a continuation that pends at x and that no record of a list disturbs comes due in any arrival
+-- at x, as it was asked for.
+abbrev pub PromiseOnArrival : Type 0
+PromiseOnArrival =
     (day : ℕ) (k : State) (rs : List (List ℕ)) (i : ℕ) (x : Instant) → i < k.counts.tasks
-    → next_of (task_at k.tasks i).continuation ≡ At x → undisturbed touches day i k rs ≡ true
+    → next_of (task_at k.tasks i).continuation ≡ At x → undisturbed day i k rs ≡ true
     → let z = final day k rs in (s : List ℕ) → Arrives day z s x
-    → SameContinuation (task_at k.tasks i) (task_at z.tasks i) × Due day z s i x
-
--- So in the tick to x, for every kernel that passes and any list of bytes.
-abbrev pub PromiseByTick : Type 0
-PromiseByTick =
-    (day : ℕ) → IsDay day → (k : State) → Passes day k → (rs : List (List ℕ)) → AllOctets rs
-    → (i : ℕ) (x : Instant) → i < k.counts.tasks → next_of (task_at k.tasks i).continuation ≡ At x
-    → undisturbed touches day i k rs ≡ true
-    → let z = final day k rs in z.now.0 + 1 ≡ x.0 → x.0 ≤ last_instant
-    → Due day z one_tick i x
+    → SameContinuation (task_at k.tasks i) (task_at z.tasks i) × DueOn day z s i x

@@ -24,27 +24,17 @@ use Rattle.machine.specs.Work.{changed, every_turn}
 use Rattle.machine.specs.Calls.{work_of}
 
 -- A task is in the sets that its turn marked, and in no other: a start kept back or lost is due and not started.
-pub record MarksNameSets : Type 0 where
-  -- a call about one task: that one, and nobody else
-  pub one : (k : State) (i : ℕ) (c : Change) (x : Set) → has i (members x (changed k i c).sets) ≡ bit (mark x c.marks)
-  pub others : (k : State) (i : ℕ) (c : Change) (x : Set) (j : ℕ) → j ≢ i → has j (members x (changed k i c).sets) ≡ 0
-  -- a tick, a sleep or a trigger: each declared task by its own turn, and nobody beyond
-  pub each : (k : State) (n : Instant) (f : Task → Turn) (x : Set) (i : ℕ) → k.counts.tasks ≤ length k.tasks
-      → i < k.counts.tasks → has i (members x (every_turn k n f).sets) ≡ bit (mark x (f (task_at k.tasks i)).marks)
-  pub beyond : (k : State) (n : Instant) (f : Task → Turn) (x : Set) (i : ℕ) → k.counts.tasks ≤ length k.tasks
-      → k.counts.tasks ≤ i → has i (members x (every_turn k n f).sets) ≡ 0
-  -- each mark names the set of its name
-  pub named : (i : ℕ) (m : Marks)
-      → only_in i m
-      ≡ record {
-        due = only i m.due;
-        started = only i m.started;
-        ended = only i m.ended;
-        lost = only i m.lost;
-        granted = only i m.granted;
-      }
-  -- and these are all
-  pub five : (s : Sets) → each_set (λ x. members x s) ≡ s
+abbrev pub MarksNameSets : Type 0
+MarksNameSets =
+    (i : ℕ) (m : Marks)
+    → only_in i m
+    ≡ record {
+      due = only i m.due;
+      started = only i m.started;
+      ended = only i m.ended;
+      lost = only i m.lost;
+      granted = only i m.granted;
+    }
 
 -- A TRY never waits: granted or not, the tasks stay as they are.
 abbrev pub TryGoesOn : Type 0
@@ -59,6 +49,23 @@ EqualWriterGoesBefore =
 -- A CONTINUE on a schedule finds its task in any state.
 abbrev pub LaterContinueIsTaken : Type 0
 LaterContinueIsTaken = (k : State) (c : Call) → c.head.kind ≢ 0 → state_refusal CO k c ≡ 0
+
+-- ---- who is in the sets
+
+-- A task is in the sets that its own turn marked, and in no other.
+pub record TurnsMarkSets : Type 0 where
+  -- a call about one task: that one, and nobody else
+  pub one : (k : State) (i : ℕ) (c : Change) (x : Set) → has i (members x (changed k i c).sets) ≡ bit (mark x c.marks)
+  pub others : (k : State) (i : ℕ) (c : Change) (x : Set) (j : ℕ) → j ≢ i → has j (members x (changed k i c).sets) ≡ 0
+  -- a tick, a sleep or a trigger: each declared task by its own turn, and nobody beyond
+  pub each : (k : State) (n : Instant) (f : Task → Turn) (x : Set) (i : ℕ) → k.counts.tasks ≤ length k.tasks
+      → i < k.counts.tasks → has i (members x (every_turn k n f).sets) ≡ bit (mark x (f (task_at k.tasks i)).marks)
+  pub beyond : (k : State) (n : Instant) (f : Task → Turn) (x : Set) (i : ℕ) → k.counts.tasks ≤ length k.tasks
+      → k.counts.tasks ≤ i → has i (members x (every_turn k n f).sets) ≡ 0
+  -- each mark names the set of its name
+  pub named : MarksNameSets
+  -- and these are all
+  pub five : (s : Sets) → each_set (λ x. members x s) ≡ s
 
 -- ---- what could be granted
 

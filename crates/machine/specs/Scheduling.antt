@@ -29,7 +29,7 @@ use Rattle.machine.specs.State.{task_at, enabled_at}
 use Rattle.machine.specs.Calls.{arrival}
 use Rattle.machine.specs.Step.{step}
 use Rattle.machine.specs.Log.{final}
-use Rattle.machine.specs.Continuing.{Accepts, task_after, first_of, Touch, disturbs, undisturbed, Arrives}
+use Rattle.machine.specs.Continuing.{Accepts, task_after, first_of, Touch, meets, unmet, Arrives}
 
 -- ---- first, last and next
 
@@ -137,14 +137,14 @@ touches_schedule k c i =
 -- Whatever the kernel and the bytes: a step that doesn't disturb a declared task's schedule leaves it as it is.
 abbrev pub ScheduleUndisturbed : Type 0
 ScheduleUndisturbed =
-    (day : ℕ) (k : State) (s : List ℕ) (i : ℕ) → i < k.counts.tasks → disturbs touches_schedule day k s i ≡ false
+    (day : ℕ) (k : State) (s : List ℕ) (i : ℕ) → i < k.counts.tasks → meets touches_schedule day k s i ≡ false
     → (task_after day k s i).schedule ≡ (task_at k.tasks i).schedule
 
 -- So does a list of records.
 abbrev pub ScheduleStays : Type 0
 ScheduleStays =
     (day : ℕ) (k : State) (rs : List (List ℕ)) (i : ℕ) → i < k.counts.tasks
-    → undisturbed touches_schedule day i k rs ≡ true
+    → unmet touches_schedule day i k rs ≡ true
     → (task_at (final day k rs).tasks i).schedule ≡ (task_at k.tasks i).schedule
 
 -- ---- it comes due
@@ -171,6 +171,6 @@ NoOtherStarts =
 abbrev pub StartPromiseKept : Type 0
 StartPromiseKept =
     (day : ℕ) (k : State) (rs : List (List ℕ)) (i : ℕ) (x : Instant) → i < k.counts.tasks
-    → next_of (task_at k.tasks i).schedule.alarm ≡ At x → undisturbed touches_schedule day i k rs ≡ true
+    → next_of (task_at k.tasks i).schedule.alarm ≡ At x → unmet touches_schedule day i k rs ≡ true
     → let z = final day k rs in (s : List ℕ) → Arrives day z s x
     → StartDue day z s i x
