@@ -30,7 +30,7 @@ use Rattle.machine.proofs.Facts.{StateOk, passes_of_ok, ok_of_passes}
 use Rattle.machine.proofs.Members.{sets_have}
 use Rattle.balance.specs.Counting.{count, is_accepted, names_of, no_names, returned, Asking, asked_after, grants, Open, none_open, asks_now, open_at, open_after, GrantsOpen, open_from}
 use Rattle.balance.specs.Fresh.{accepted_declaration, without}
-use Rattle.balance.specs.Balance.{RightStep, AtEachRecord, Balance}
+use Rattle.balance.specs.Balance.{RightStep, AtEachRecord, Balance, SetsAtEachRecord, SetsAreRight}
 use Rattle.balance.proofs.Steps.{Invariant, StepBooks, step_books}
 
 -- ---- any kernel on the way
@@ -52,9 +52,6 @@ right day k last was r h d =
       tested = (passes_of_ok day k h).tested;
       never_1 = λ e. contra (taken_valid day k (passes_of_ok day k h).tested) ((refusals_numbered day k r).first e);
       never_16 = λ e. ((refusals_numbered day k r).second e).1 h.filed_ok;
-      due = λ i l. (sets_have day k r i l).due;
-      started = λ i l. (sets_have day k r i l).started;
-      ended = λ i l. (sets_have day k r i l).ended;
       lost = λ i l. (d.marked i l).lost;
       declared = d.declared;
       begun = d.begun;
@@ -138,3 +135,10 @@ balance day is_day k f rs o q =
 
     empty_levels : (k : State) (b : ℕ) → bolt_at k.locks b ≡ record { writer = false; readers = 0 } → (level Reserve k.locks b ≡ 0) × (level Enter k.locks b ≡ 0)
     empty_levels k b e = unfold level in (ap (λ (x : Bolt). bit x.writer) e, ap (λ (x : Bolt). x.readers) e)
+
+-- ---- who is in the sets
+
+pub sets_are_right : SetsAreRight
+unfolding SetsAtEachRecord
+sets_are_right day k [] = tt
+sets_are_right day k (r ∷ rs) = (λ i l. sets_have day k r i l, sets_are_right day (step day k r).state rs)

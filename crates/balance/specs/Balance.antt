@@ -15,7 +15,7 @@ use Rattle.machine.specs.Granting.{servable}
 use Rattle.machine.specs.Test.{kernel_refusal}
 use Rattle.machine.specs.Step.{step}
 use Rattle.machine.specs.Log.{AllOctets, Entry, final, log}
-use Rattle.machine.specs.Members.{comes_due, comes_to_end, accepted_as, comes_to_start}
+use Rattle.machine.specs.Members.{Membership}
 use Rattle.machine.specs.Invariants.{IsDay}
 use Rattle.machine.specs.declared.State.{State}
 use Rattle.machine.specs.declared.Answer.{Answer}
@@ -71,11 +71,7 @@ pub record RightStep (day : ℕ) (k : State) (r : List ℕ) (a : Answer) (z : St
   pub tested : kernel_refusal day k ≡ 0
   pub never_1 : a.number ≢ 1
   pub never_16 : a.number ≢ 16
-  -- due, started, ended and lost exactly when the rules say so
-  pub due : (i : ℕ) → i < k.counts.tasks
-      → has i a.sets.due ≡ bit (accepted_as (λ c. comes_due day k c z.now i) r a)
-  pub started : (i : ℕ) → i < k.counts.tasks → has i a.sets.started ≡ bit (comes_to_start k a i)
-  pub ended : (i : ℕ) → i < k.counts.tasks → has i a.sets.ended ≡ bit (accepted_as (λ c. comes_to_end k c i) r a)
+  -- lost exactly when the rule says so
   pub lost : (i : ℕ) → i < k.counts.tasks → has i a.sets.lost ≡ bit (loses k r a i)
   -- sets name declared tasks only
   pub declared : (x : Set) → members x a.sets < 2 ^ k.counts.tasks
@@ -122,3 +118,16 @@ pub record Parted (day : ℕ) (rs : List (List ℕ)) : Type 0 where
 -- Whatever the records.
 abbrev pub AllParted : Type 0
 AllParted = (day : ℕ) → IsDay day → (rs : List (List ℕ)) → AllOctets rs → Parted day rs
+
+-- ---- who is in the other sets
+
+-- Due, started and ended exactly when the rules say so, at each record.
+unfoldable pub SetsAtEachRecord : ℕ → State → List (List ℕ) → Type 0
+SetsAtEachRecord day k [] = Unit {0}
+SetsAtEachRecord day k (r ∷ rs) =
+    ((i : ℕ) → i < k.counts.tasks → Membership day k r (step day k r).answer (step day k r).state i)
+    × SetsAtEachRecord day (step day k r).state rs
+
+-- For every kernel and every list of records.
+abbrev pub SetsAreRight : Type 0
+SetsAreRight = (day : ℕ) (k : State) (rs : List (List ℕ)) → SetsAtEachRecord day k rs
