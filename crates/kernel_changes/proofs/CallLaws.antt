@@ -33,9 +33,9 @@ use Rattle.machine.proofs.Urgency.{Below, runner_below}
 use Rattle.machine.proofs.Passed.{Formal, formal}
 use Rattle.machine.proofs.Sorts.{listing, list_mark, list_shape, no_list_law}
 use Rattle.kernel_refusals.specs.Inner.{InOrder}
-use Rattle.kernel_limits.proofs.AskLaws.{list_below}
+use Rattle.kernel_test.proofs.AskLaws.{list_below}
 use Rattle.kernel_refusals.proofs.RefusalLaws.{refusal_by_law}
-use Rattle.kernel_limits.proofs.SoundLaws.{places_fit, sound}
+use Rattle.kernel_test.proofs.SoundLaws.{places_fit, sound}
 use Rattle.layout.specs.Fields.{most_numbers}
 
 module _ (day : ℕ) (k : State) (h : Head) (l : List ℕ) where

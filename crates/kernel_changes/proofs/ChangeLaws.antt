@@ -42,13 +42,13 @@ use Rattle.machine.specs.Sets.{only, mark, no_sets, only_in}
 use Rattle.machine.specs.declared.Sets.{Sets}
 use Rattle.machine.proofs.SetLaws.{members_each, each_same}
 use Rattle.kernel_sets.specs.Puts.{put_if, put_marks}
-use Rattle.kernel_limits.specs.Settled.{waits_ok}
+use Rattle.kernel_test.specs.Looks.{waits_ok}
 use Rattle.kernel_finish.specs.Ends.{as_before, work_here, next_filed}
 use Rattle.kernel_finish.proofs.EndLaws.{next_of_work}
 use Rattle.machine.specs.NextEvent.{next_among}
 use Rattle.calendar.specs.declared.Moment.{Moment}
-use Rattle.kernel_limits.proofs.AskLaws.{wait_begins}
-use Rattle.kernel_limits.proofs.SoundLaws.{wait_stays, wait_at, waits_changed, sound}
+use Rattle.kernel_test.proofs.AskLaws.{wait_begins}
+use Rattle.kernel_test.proofs.SoundLaws.{wait_stays, wait_at, waits_changed, sound}
 use Rattle.kernel_values.specs.Sorts.{about_one}
 use Rattle.kernel_changes.specs.Inner.{Returnable}
 use Rattle.kernel_changes.proofs.CallLaws.{past, named_once, settled_call}

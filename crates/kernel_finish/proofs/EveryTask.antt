@@ -44,13 +44,13 @@ use Rattle.machine.specs.declared.Running.{Running}
 use Rattle.machine.specs.declared.Running.TheVariants.{Idle}
 use Rattle.machine.specs.Places.{event, moved}
 use Rattle.kernel_sets.specs.Puts.{put_if, put_marks}
-use Rattle.kernel_limits.proofs.TestLaws.{wait_of}
-use Rattle.kernel_limits.specs.Settled.{waits_ok}
+use Rattle.kernel_test.proofs.TestLaws.{wait_of}
+use Rattle.kernel_test.specs.Looks.{waits_ok}
 use Rattle.kernel_serving.specs.Served.{served, served_of}
 use Rattle.kernel_serving.proofs.ServeLaws.{served_idle}
 use Rattle.kernel_finish.specs.Ends.{work_here, next_filed, as_before}
 use Rattle.kernel_finish.proofs.EndLaws.{next_of_work}
-use Rattle.kernel_limits.proofs.SoundLaws.{sound}
+use Rattle.kernel_test.proofs.SoundLaws.{sound}
 use Rattle.kernel_values.specs.Answers.{answer_of}
 
 -- ---- a set with one more place

@@ -7,7 +7,7 @@ ghost use Rattle.machine.specs.NextEvent.{next_event};
 ghost use Rattle.machine.specs.Test.{places_ok};
 ghost use Rattle.machine.specs.Step.{finish};
 ghost use Rattle.machine.specs.Work.{only_enabled};
-ghost use Rattle.kernel_limits.specs.Settled.{waits_ok};
+ghost use Rattle.kernel_test.specs.Looks.{waits_ok};
 ghost use Rattle.kernel_sets.specs.Standing.{Turned};
 ghost use Rattle.kernel_finish.specs.Ends.{as_before, work_here, next_filed};
 

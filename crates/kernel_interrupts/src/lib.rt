@@ -10,7 +10,7 @@ ghost use Rattle.machine.specs.Test.{places_ok, valid};
 ghost use Rattle.machine.specs.Work.{every_turn};
 ghost use Rattle.machine.specs.Calls.{trigger_in, enable_in, interrupt_by};
 ghost use Rattle.machine.specs.Step.{finish};
-ghost use Rattle.kernel_limits.specs.Settled.{waits_ok};
+ghost use Rattle.kernel_test.specs.Looks.{waits_ok};
 ghost use Rattle.kernel_sets.specs.Standing.{Turned};
 
 use kernel_finish::{done, finished};

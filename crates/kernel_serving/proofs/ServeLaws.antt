@@ -13,7 +13,7 @@ use Rattle.machine.specs.declared.State.{State}
 use Rattle.machine.specs.declared.Running.{Running}
 use Rattle.machine.specs.declared.Running.TheVariants.{Idle, Runs}
 use Rattle.machine.proofs.Below.{most_urgent_at, most_urgent_none}
-use Rattle.kernel_limits.specs.Settled.{waits_ok}
+use Rattle.kernel_test.specs.Looks.{waits_ok}
 use Rattle.kernel_serving.specs.Served.{served, with_served, served_of}
 use Rattle.kernel_serving.proofs.WaitLaws.{servable_idle, waits_kept}
 

@@ -23,7 +23,7 @@ use Rattle.machine.specs.declared.State.{State}
 use Rattle.machine.proofs.Below.{all_at, all_from}
 use Rattle.machine.proofs.Passed.{counts_fit, count_fits}
 use Rattle.machine.proofs.Serving.{grant_at, grant_other}
-use Rattle.kernel_limits.specs.Settled.{waits_ok}
+use Rattle.kernel_test.specs.Looks.{waits_ok}
 use Rattle.kernel_serving.specs.Served.{served, with_served}
 
 -- The list of a task that waits.

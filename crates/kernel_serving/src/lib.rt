@@ -4,7 +4,7 @@
 ghost use Rattle.std.specs.Prelude.{◌≡◌, true, ◌<◌};
 ghost use Rattle.machine.specs.Granting.{servable};
 ghost use Rattle.machine.specs.Serving.{next_served, grant_to};
-ghost use Rattle.kernel_limits.specs.Settled.{waits_ok};
+ghost use Rattle.kernel_test.specs.Looks.{waits_ok};
 ghost use Rattle.kernel_serving.specs.Served.{served, with_served, served_of};
 
 use kernel_granting::{is_available, is_missing, no_writers, writers_of};

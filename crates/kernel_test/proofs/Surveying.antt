@@ -24,13 +24,12 @@ use Rattle.kernel_urgency.specs.Leads.{no_lead, Weighed, whose}
 use Rattle.kernel_urgency.specs.declared.scan.Lead.{Lead}
 use Rattle.kernel_urgency.proofs.LeadLaws.{Led, can_run, led_none, led_more, led_passed}
 use Rattle.kernel_test.specs.declared.Survey.{Survey}
-use Rattle.kernel_limits.specs.Settled.{at_ease}
-use Rattle.kernel_test.specs.Looks.{unfit, surveyed}
+use Rattle.kernel_test.specs.Looks.{at_ease, unfit, surveyed}
 use Rattle.kernel_next.specs.Next.{moment_of}
 use Rattle.machine.specs.NextEvent.{next_among}
 use Rattle.kernel_next.proofs.NextLaws.{among_none, among_more}
-use Rattle.kernel_limits.proofs.TaskFit.{eased_runs, busy_rests}
-use Rattle.kernel_limits.proofs.TestLaws.{fit_at, Upto, upto_none, upto_passes}
+use Rattle.kernel_test.proofs.TaskFit.{eased_runs, busy_rests}
+use Rattle.kernel_test.proofs.TestLaws.{fit_at, Upto, upto_none, upto_passes}
 use Rattle.kernel_places.specs.Seen.{none_seen, with_place, seen_by}
 use Rattle.kernel_places.specs.declared.seen.Seen.{Seen}
 

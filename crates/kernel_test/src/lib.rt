@@ -1,18 +1,21 @@
 // The kernel test, refusals 1 and 16. One look at a kernel tells its running task and its next event too.
 #![tactic(auto)]
 
+pub mod check;
+pub mod file;
+
 ghost use Rattle.std.specs.Prelude.{◌≡◌};
 ghost use Rattle.calendar.specs.Limits.{day_length};
 ghost use Rattle.machine.specs.Test.{kernel_refusal};
 ghost use Rattle.kernel_test.specs.Looks.{unfit, surveyed};
 
-use calendar::{LAST_INSTANT, Moment, is_time_of_day};
-use kernel_granting::{is_missing, no_writers, writers_of};
-use kernel_limits::check::{
+use crate::check::{
     are_counts_ok, are_priorities, is_at_ease, is_busy_ok, is_continuation_ok, is_kept_right,
     is_schedule_ok,
 };
-use kernel_limits::file::file_refusal;
+use crate::file::file_refusal;
+use calendar::{LAST_INSTANT, Moment, is_time_of_day};
+use kernel_granting::{is_missing, no_writers, writers_of};
 use kernel_next::{moment_of, sooner_due, sooner_end};
 use kernel_places::seen::none_seen;
 use kernel_urgency::scan::no_lead;

@@ -4,7 +4,7 @@ use mathlib.Core.Path.{refl, sym, ◌∙◌}
 use native.Mathlib.Nat.{min-eq_left, le_antisymm}
 use Rattle.facts.proofs.Bools.{contra}
 use Rattle.kernel_values.proofs.Owned.{tables_long}
-use Rattle.kernel_limits.proofs.SoundLaws.{places_fit}
+use Rattle.kernel_test.proofs.SoundLaws.{places_fit}
 use Rattle.kernel_values.proofs.RunningLaws.{not_someone}
 use Rattle.kernel_finish.proofs.Scanning.{Scanned, scanning_none, scanning_more, scanning_all}
 use Rattle.kernel_finish.proofs.EndLaws.{Settled, nobody_waits, settled_idle, then_second, settled_served, settled_ends}

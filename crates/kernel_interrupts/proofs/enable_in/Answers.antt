@@ -2,8 +2,8 @@
 use borrow.Author.Rules.{rules}
 use Rattle.machine.specs.Work.{only_enabled}
 use Rattle.machine.specs.Step.{finish}
-use Rattle.kernel_limits.specs.Settled.{waits_ok}
-use Rattle.kernel_limits.proofs.AskLaws.{interrupt_fits}
+use Rattle.kernel_test.specs.Looks.{waits_ok}
+use Rattle.kernel_test.proofs.AskLaws.{interrupt_fits}
 use Rattle.kernel_interrupts.proofs.enable_in.Goals as goal
 
 pub bounds-k-i : goal.bounds-k-i

@@ -10,7 +10,7 @@ use Rattle.layout.proofs.MarksLaws.{alike}
 use Rattle.machine.specs.Calls.{interrupt_by}
 use Rattle.machine.specs.Step.{finish}
 use Rattle.machine.proofs.Passed.{parts}
-use Rattle.kernel_limits.proofs.SoundLaws.{sound}
+use Rattle.kernel_test.proofs.SoundLaws.{sound}
 use Rattle.kernel_interrupts.proofs.interrupted.Goals as goal
 
 pub enable_in-requires : goal.enable_in-requires

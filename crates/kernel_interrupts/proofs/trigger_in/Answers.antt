@@ -10,7 +10,7 @@ use Rattle.machine.specs.Step.{finish}
 use Rattle.machine.proofs.Passed.{tested, parts}
 use Rattle.machine.proofs.Turns.{good_trigger}
 use Rattle.kernel_values.proofs.Owned.{tasks_long}
-use Rattle.kernel_limits.proofs.SoundLaws.{sound}
+use Rattle.kernel_test.proofs.SoundLaws.{sound}
 use Rattle.kernel_finish.proofs.EveryTask.{every_finish, every_waits, trigger_on, trigger_off}
 use Rattle.kernel_interrupts.proofs.trigger_in.Goals as goal
 

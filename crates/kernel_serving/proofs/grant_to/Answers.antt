@@ -6,7 +6,7 @@ use Rattle.machine.specs.Serving.{grant_to}
 use Rattle.machine.proofs.Serving.{served_waits, served_free}
 use Rattle.kernel_serving.specs.Served.{served}
 use Rattle.kernel_serving.proofs.WaitLaws.{Listed, listed}
-use Rattle.kernel_limits.proofs.SoundLaws.{places_fit}
+use Rattle.kernel_test.proofs.SoundLaws.{places_fit}
 use Rattle.kernel_serving.proofs.grant_to.Goals as goal
 
 pub bounds-k-i : goal.bounds-k-i

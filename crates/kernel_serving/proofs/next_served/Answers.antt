@@ -12,12 +12,12 @@ use Rattle.machine.specs.Granting.{servable}
 use Rattle.machine.specs.declared.State.{State}
 use Rattle.machine.specs.Running.{urgency}
 use Rattle.kernel_granting.specs.Writers.{Known, TellsFor}
-use Rattle.kernel_limits.specs.Settled.{waits_ok}
+use Rattle.kernel_test.specs.Looks.{waits_ok}
 use Rattle.kernel_values.proofs.Owned.{Owned, list_long}
 use Rattle.kernel_granting.proofs.WriterLaws.{known_none, ready_told, ready_known, shows_here}
 use Rattle.kernel_urgency.proofs.LeadLaws.{led_none, led_more, led_passed, weighed, against_later}
 use Rattle.kernel_serving.proofs.WaitLaws.{listed, servable_idle, servable_each}
-use Rattle.kernel_limits.proofs.SoundLaws.{places_fit}
+use Rattle.kernel_test.proofs.SoundLaws.{places_fit}
 use Rattle.kernel_serving.proofs.next_served.Goals as goal
 use Rattle.kernel_serving.proofs.next_served.Goals.{then-is_missing, else-is_missing}
 

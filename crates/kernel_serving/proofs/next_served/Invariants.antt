@@ -21,7 +21,7 @@ use Rattle.kernel_values.proofs.Owned.{Owned, list_long}
 use Rattle.kernel_granting.proofs.WriterLaws.{known_none, ready_told, ready_known, shows_here}
 use Rattle.kernel_urgency.proofs.LeadLaws.{Led, led_none, led_more, led_passed, weighed, against_later}
 use Rattle.kernel_serving.proofs.WaitLaws.{Listed, listed, servable_idle, servable_each}
-use Rattle.kernel_limits.proofs.SoundLaws.{places_fit}
+use Rattle.kernel_test.proofs.SoundLaws.{places_fit}
 use Rattle.kernel_serving.proofs.next_served.Given as goal
 
 abbrev pub invariant-loop-j : goal.invariant-loop-j

@@ -9,7 +9,7 @@ use Rattle.machine.specs.Serving.{next_served}
 use Rattle.machine.specs.declared.Running.{Running}
 use Rattle.machine.specs.declared.State.{State}
 use Rattle.kernel_serving.specs.Served.{served}
-use Rattle.kernel_limits.proofs.SoundLaws.{places_fit}
+use Rattle.kernel_test.proofs.SoundLaws.{places_fit}
 use Rattle.kernel_serving.proofs.ServeLaws.{Serves, serves_start, serves_idle, serves_end, serves_turn, next_right}
 use Rattle.kernel_serving.proofs.serve.Goals as goal
 

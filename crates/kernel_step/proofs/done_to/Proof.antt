@@ -23,7 +23,7 @@ use Rattle.kernel_granting.proofs.WriterLaws.{known_none, ready_told, ready_know
 use Rattle.kernel_values.proofs.Owned.{tasks_long}
 use Rattle.kernel_sets.specs.Standing.{Turned}
 use Rattle.kernel_sets.proofs.Turning.{turned_more}
-use Rattle.kernel_limits.proofs.SoundLaws.{sound}
+use Rattle.kernel_test.proofs.SoundLaws.{sound}
 use Rattle.kernel_values.specs.Sorts.{about_one}
 use Rattle.kernel_changes.proofs.CallLaws.{in_order, place_in, ground, settled_refused}
 use Rattle.kernel_changes.proofs.ChangeLaws.{can_give_back, change_waits, change_done}

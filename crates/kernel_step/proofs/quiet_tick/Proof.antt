@@ -5,7 +5,7 @@ use Rattle.machine.specs.Step.{answered}
 use Rattle.machine.specs.declared.State.{State}
 use native.Mathlib.Omega.{arith}
 use Rattle.machine.proofs.Filing.{taken_valid}
-use Rattle.kernel_limits.proofs.SoundLaws.{sound}
+use Rattle.kernel_test.proofs.SoundLaws.{sound}
 use Rattle.kernel_values.proofs.Owned.{tasks_long}
 use Rattle.kernel_step.proofs.StepLaws.{quiet_tick_law}
 use borrow.Author.Rules.{rules}

@@ -9,7 +9,7 @@ use Rattle.machine.specs.Test.{kernel_refusal}
 use Rattle.machine.specs.declared.State.{State}
 use Rattle.machine.proofs.Filing.{taken_valid}
 use Rattle.kernel_values.proofs.TickLaws.{tick_bytes}
-use Rattle.kernel_limits.proofs.SoundLaws.{sound}
+use Rattle.kernel_test.proofs.SoundLaws.{sound}
 use Rattle.kernel_step.proofs.StepLaws.{step_away}
 use Rattle.kernel_step.proofs.step.Statement.{statement}
 use Rattle.kernel_step.proofs.step.Tie as tie

@@ -14,8 +14,8 @@ use Rattle.kernel_granting.specs.Writers.{Known, TellsFor}
 use Rattle.kernel_values.proofs.Owned.{given_small}
 use Rattle.kernel_granting.proofs.WriterLaws.{known_none, ready_told, ready_known}
 use Rattle.kernel_test.specs.Looks.{unfit, surveyed}
-use Rattle.kernel_limits.proofs.TaskFit.{plan_none, continuation_none, no_start, Starts, start_none, start_kept, eased, odd_priority, odd_schedule, odd_continuation, odd_kept, odd_busy, fit_eased, fit_busy}
-use Rattle.kernel_limits.proofs.TestLaws.{fit_at, Upto, upto_fails, upto_all, out_of_range, counted, tasks_fit, all_fit}
+use Rattle.kernel_test.proofs.TaskFit.{plan_none, continuation_none, no_start, Starts, start_none, start_kept, eased, odd_priority, odd_schedule, odd_continuation, odd_kept, odd_busy, fit_eased, fit_busy}
+use Rattle.kernel_test.proofs.TestLaws.{fit_at, Upto, upto_fails, upto_all, out_of_range, counted, tasks_fit, all_fit}
 use Rattle.kernel_test.proofs.Surveying.{Part, sooner_more, sooner_same, led_eased, led_busy, looked_none, looked_next, looked_event, looked_places, looked_runs, unfit_is, fit_is}
 use Rattle.kernel_test.proofs.surveyed.Goals as goal
 use Rattle.kernel_test.proofs.surveyed.Goals.{then-is_planned+else-not-is_continuation_ok, else-is_planned, then-is_planned-2+else-not-is_schedule_ok, else-is_planned-2, then-is_back+else-not-is_kept_right, else-is_back, then-is_missing, else-is_missing}

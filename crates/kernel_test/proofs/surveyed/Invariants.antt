@@ -6,7 +6,7 @@ use Rattle.machine.specs.State.{most_tasks}
 use Rattle.machine.specs.Sums.{all_below}
 use Rattle.machine.specs.Test.{counts_ok, places_ok, valid}
 use Rattle.kernel_granting.specs.Writers.{Known}
-use Rattle.kernel_limits.proofs.TestLaws.{fit_at}
+use Rattle.kernel_test.proofs.TestLaws.{fit_at}
 use Rattle.kernel_test.proofs.Surveying.{Looked}
 use Rattle.kernel_test.proofs.surveyed.Given as goal
 
