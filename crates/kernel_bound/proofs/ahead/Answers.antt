@@ -17,18 +17,18 @@ loop-i-init c =
 
 pub loop-i-preserved : goal.loop-i-preserved
 loop-i-preserved c = (
-    search rules,
-    search rules,
-    (elim c.if-is_ahead.branch [ then-is_ahead w ↦ omega arith | else-is_ahead w ↦ omega arith ]),
-    (let a = c.args in
+  search rules,
+  search rules,
+  (elim c.if-is_ahead.branch [ then-is_ahead w ↦ omega arith | else-is_ahead w ↦ omega arith ]),
+  (let a = c.args in
       let own = c.urgency_of-urgency.ensures.0 in
       let said = c.is_ahead.ensures in
       let so_far = c.loop-i.invariant.3 in
-      elim c.if-is_ahead.branch
-      [ then-is_ahead w ↦ w.count-is ∙ ahead_more a.k a.s a.j c.loop-i.i own said so_far w.if-is_ahead.true
-      | else-is_ahead w ↦ w.count-is ∙ ahead_passed a.k a.s a.j c.loop-i.i own said so_far w.if-is_ahead.false
+      elim c.if-is_ahead.branch [
+        | then-is_ahead w ↦ w.count-is ∙ ahead_more a.k a.s a.j c.loop-i.i own said so_far w.if-is_ahead.true
+        | else-is_ahead w ↦ w.count-is ∙ ahead_passed a.k a.s a.j c.loop-i.i own said so_far w.if-is_ahead.false
       ]),
-  )
+)
 
 pub returns : goal.returns
 returns c =

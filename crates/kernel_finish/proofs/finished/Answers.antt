@@ -16,10 +16,10 @@ loop-i-2-init c = (search rules, scanning_none _ _ c.no_lead-lead.ensures)
 
 pub loop-i-2-preserved : goal.loop-i-2-preserved
 loop-i-2-preserved c = (
-    search rules,
-    scanning_more _ _ c.loop-i-2.invariant.1 c.can_run-runs.ensures c.put_if-runnable.ensures c.is_waiting.ensures c.put_if-waiting.ensures
-        c.is_in.ensures c.place_if.ensures c.against_if-lead.ensures,
-  )
+  search rules,
+  scanning_more _ _ c.loop-i-2.invariant.1 c.can_run-runs.ensures c.put_if-runnable.ensures c.is_waiting.ensures c.put_if-waiting.ensures
+      c.is_in.ensures c.place_if.ensures c.against_if-lead.ensures,
+)
 
 pub loop-i-preserved : goal.loop-i-preserved
 loop-i-preserved c =
@@ -40,15 +40,15 @@ returns c ts t =
     let fits = places_fit a.k c.requires.k_value in
     let scan = scanning_all _ _ l.invariant.1 (le_antisymm l.invariant.0 c.loop-i-2-test.false ∙ c.in_table-n.ensures ∙ min-eq_left fits) in
     let s : Settled a.k a.m ts p.k p.granted l.lead c.if-served.before (record { runnable = l.runnable; waiting = l.waiting }) =
-        elim c.if-served.branch
-        [ then-served w ↦ rw w.before-is (settled_served _ _ _ scan fits (p.invariant.1 w.if-served.true) ts t)
-        | else-served+then-waiting-eq0 w ↦
+    elim c.if-served.branch [
+      | then-served w ↦ rw w.before-is (settled_served _ _ _ scan fits (p.invariant.1 w.if-served.true) ts t)
+      | else-served+then-waiting-eq0 w ↦
           rw w.before-is (settled_idle _ _ _ scan (p.invariant.0 w.if-served.false) w.turned_back-before.ensures
           (nobody_waits _ _ _ scan (p.invariant.0 w.if-served.false) w.turned_back-before.ensures w.if-waiting-eq0.true) ts t)
-        | else-served+else-waiting-eq0+then-not-is_someone w ↦
+      | else-served+else-waiting-eq0+then-not-is_someone w ↦
           rw w.before-is (settled_idle _ _ _ scan (p.invariant.0 w.if-served.false) w.turned_back-before.ensures
           (sym w.next_served.ensures ∙ not_someone _ (sym w.is_someone.ensures ∙ w.if-not-is_someone.true)) ts t)
-        ] in
+    ] in
     rw (c.answer_of.ensures, c.begun_at.ensures, c.who-running.ensures)
     (settled_ends a.k a.m fits c.requires.places_value (tables_long a.k (c.well_formed.0.0, c.well_formed.0.1.1)).places ts
     p.k p.granted l.lead c.if-served.before _ s

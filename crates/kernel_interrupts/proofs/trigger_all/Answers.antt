@@ -45,15 +45,15 @@ loop-i-preserved c =
     let f = trigger_turn day_length k.clock k.now c.args.interrupt in
     let room : o.i < length o.k.tasks = omega (arith, less, made_long f k o.invariant.1) in (
       search rules,
-      elim c.if-listens_to.branch
-      [ then-listens_to w ↦ made_more f k o.i less o.invariant.1 w.trigger-u.result w.trigger-u.ensures w.k-is (w.s-is ∙ w.put_marks-s.ensures)
-      | else-listens_to w ↦ made_still f k o.i less o.invariant.1 (deaf day_length k.clock k.now c.args.interrupt _ (sym c.listens_to.ensures ∙ w.if-listens_to.false)) w.k-is w.s-is
+      elim c.if-listens_to.branch [
+        | then-listens_to w ↦ made_more f k o.i less o.invariant.1 w.trigger-u.result w.trigger-u.ensures w.k-is (w.s-is ∙ w.put_marks-s.ensures)
+        | else-listens_to w ↦ made_still f k o.i less o.invariant.1 (deaf day_length k.clock k.now c.args.interrupt _ (sym c.listens_to.ensures ∙ w.if-listens_to.false)) w.k-is w.s-is
       ],
-      elim c.if-listens_to.branch
-      [ then-listens_to w ↦
-        rw (w.k-is, w.turned-is, w.with_turn-turned.ensures)
-        (turned_more k.counts.tasks k.tasks o.k.tasks o.turned o.invariant.2 o.i room (task_now f k o.i less o.invariant.1) w.trigger-u.result.task)
-      | else-listens_to w ↦ rw (w.k-is, w.turned-is) o.invariant.2
+      elim c.if-listens_to.branch [
+        | then-listens_to w ↦
+            rw (w.k-is, w.turned-is, w.with_turn-turned.ensures)
+            (turned_more k.counts.tasks k.tasks o.k.tasks o.turned o.invariant.2 o.i room (task_now f k o.i less o.invariant.1) w.trigger-u.result.task)
+        | else-listens_to w ↦ rw (w.k-is, w.turned-is) o.invariant.2
       ],
     )
 

@@ -28,9 +28,9 @@ loop-i-preserved c =
       search rules,
       h.1,
       unfold moved_below in
-          elim c.if-is_in.branch
-          [ then-is_in w ↦ rw (w.ps-is, w.to_end-next.ensures, add-one, ← said, w.if-is_in.true, h.2)
-          | else-is_in w ↦ rw (w.ps-is, add-one, ← said, w.if-is_in.false) h.2
+          elim c.if-is_in.branch [
+            | then-is_in w ↦ rw (w.ps-is, w.to_end-next.ensures, add-one, ← said, w.if-is_in.true, h.2)
+            | else-is_in w ↦ rw (w.ps-is, add-one, ← said, w.if-is_in.false) h.2
           ],
     )
 

@@ -21,9 +21,9 @@ loop-j-preserved c =
       search rules,
       h.1,
       refl,
-      elim c.if-p-q.branch
-      [ then-p-q w ↦ rw w.places-is (closing_up h.3 (search rules) w.if-p-q.true)
-      | else-p-q w ↦ rw w.places-is (closing_stay h.3 w.if-p-q.false)
+      elim c.if-p-q.branch [
+        | then-p-q w ↦ rw w.places-is (closing_up h.3 (search rules) w.if-p-q.true)
+        | else-p-q w ↦ rw w.places-is (closing_stay h.3 w.if-p-q.false)
       ],
     )
 

@@ -86,10 +86,10 @@ tasks-preserved-then-not-is_available c =
     let t = task_at k.tasks i in
     let w = c.if-is_missing.writers in
     let ready : Known n k.tasks w × TellsFor t.wait n k.tasks w =
-        elim c.if-is_missing.branch
-        [ then-is_missing b ↦ ready_told t.wait n k.tasks b.writers-is b.writers_of-writers.ensures
-        | else-is_missing b ↦ ready_known t.wait n k.tasks b.writers-is c.tasks.invariant.2 c.is_missing.ensures b.if-is_missing.false
-        ] in
+    elim c.if-is_missing.branch [
+      | then-is_missing b ↦ ready_told t.wait n k.tasks b.writers-is b.writers_of-writers.ensures
+      | else-is_missing b ↦ ready_known t.wait n k.tasks b.writers-is c.tasks.invariant.2 c.is_missing.ensures b.if-is_missing.false
+    ] in
     let l = c.loop-j.invariant.1 in
     let there = c.is_available.ensures k.locks w _ n k.tasks (shows_here k.locks w _ (number_below l.named c.loop-j-test.true)) ready.1 in
     let waits = sym c.is_waiting.ensures ∙ c.if-not-is_waiting.false in
@@ -103,10 +103,10 @@ loop-j-preserved c =
     let t = task_at k.tasks c.tasks.i in
     let w = c.if-is_missing.writers in
     let ready : Known n k.tasks w × TellsFor t.wait n k.tasks w =
-        elim c.if-is_missing.branch
-        [ then-is_missing b ↦ ready_told t.wait n k.tasks b.writers-is b.writers_of-writers.ensures
-        | else-is_missing b ↦ ready_known t.wait n k.tasks b.writers-is c.tasks.invariant.2 c.is_missing.ensures b.if-is_missing.false
-        ] in
+    elim c.if-is_missing.branch [
+      | then-is_missing b ↦ ready_told t.wait n k.tasks b.writers-is b.writers_of-writers.ensures
+      | else-is_missing b ↦ ready_known t.wait n k.tasks b.writers-is c.tasks.invariant.2 c.is_missing.ensures b.if-is_missing.false
+    ] in
     let l = c.loop-j.invariant.1 in
     let there = c.is_available.ensures k.locks w _ n k.tasks (shows_here k.locks w _ (number_below l.named c.loop-j-test.true)) ready.1 in
     (c.loop-j.invariant.0, passes_here l c.loop-j-test.true there (ap not c.if-not-is_available.false))
@@ -120,10 +120,10 @@ tasks-preserved c =
     let t = task_at k.tasks i in
     let w = c.if-is_missing.writers in
     let known : Known n k.tasks w =
-        elim c.if-is_missing.branch
-        [ then-is_missing b ↦ (ready_told t.wait n k.tasks b.writers-is b.writers_of-writers.ensures).0
-        | else-is_missing b ↦ (ready_known t.wait n k.tasks b.writers-is c.tasks.invariant.2 c.is_missing.ensures b.if-is_missing.false).0
-        ] in
+    elim c.if-is_missing.branch [
+      | then-is_missing b ↦ (ready_told t.wait n k.tasks b.writers-is b.writers_of-writers.ensures).0
+      | else-is_missing b ↦ (ready_known t.wait n k.tasks b.writers-is c.tasks.invariant.2 c.is_missing.ensures b.if-is_missing.false).0
+    ] in
     let waits = sym c.is_waiting.ensures ∙ c.if-not-is_waiting.false in
     let e = servable_each _ k.tasks k.locks i waits ∙ sym (all_pass c.loop-j.invariant.1 c.loop-j-test.false) in
     (search rules, led_more (can_serve k) (urge k) i (sym e) c.tasks.invariant.1 (weighed (placed k i c.requires c.tasks-test.true) c.urgency_of-u.ensures c.against-lead.ensures), known)

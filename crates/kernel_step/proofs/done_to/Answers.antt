@@ -82,12 +82,12 @@ change_of-c-requires-clause-for_some c =
     let n = k.counts.tasks in
     let v = c.asked_kind.result in
     let told : TellsFor (asked_kind c.args.sort) n k.tasks c.if-is_missing.writers =
-        rw (← c.asked_kind.ensures)
-        (elim c.if-is_missing.branch
-        [ then-is_missing w ↦ (ready_told v n k.tasks w.writers-is w.writers_of-writers.ensures).1
-        | else-is_missing w ↦
+    rw (← c.asked_kind.ensures)
+    (elim c.if-is_missing.branch [
+      | then-is_missing w ↦ (ready_told v n k.tasks w.writers-is w.writers_of-writers.ensures).1
+      | else-is_missing w ↦
           (ready_known v n k.tasks (w.writers-is ∙ c.no_writers-writers.ensures) (known_none n k.tasks) (rw c.no_writers-writers.ensures at c.is_missing.ensures) w.if-is_missing.false).1
-        ]) in
+    ]) in
     (n, k.tasks, told)
 
 pub bounds-k-i-2 : goal.bounds-k-i-2
@@ -121,12 +121,12 @@ finished-requires-clause-k_value c =
     let v = c.asked_kind.result in
     let passed = sym (ground day_length k a.h a.list q.r_value q.sort_value q.i_value (taken_next day_length k q.k_value) c.state_refusal-number.ensures) ∙ c.if-number-ne0.false in
     let told : TellsFor (asked_kind a.sort) n k.tasks c.if-is_missing.writers =
-        rw (← c.asked_kind.ensures)
-        (elim c.if-is_missing.branch
-        [ then-is_missing w ↦ (ready_told v n k.tasks w.writers-is w.writers_of-writers.ensures).1
-        | else-is_missing w ↦
+    rw (← c.asked_kind.ensures)
+    (elim c.if-is_missing.branch [
+      | then-is_missing w ↦ (ready_told v n k.tasks w.writers-is w.writers_of-writers.ensures).1
+      | else-is_missing w ↦
           (ready_known v n k.tasks (w.writers-is ∙ c.no_writers-writers.ensures) (known_none n k.tasks) (rw c.no_writers-writers.ensures at c.is_missing.ensures) w.if-is_missing.false).1
-        ]) in
+    ]) in
     change_waits day_length k a.h a.list valid_at q.list_value passed q.sort_value q.sort_value_2 (q.i_value ∙ ap (task_of a.sort a.h) q.r_value) (c.change_of-c.ensures n k.tasks told)
 
 pub finished-requires-clause-places_value : goal.finished-requires-clause-places_value
@@ -146,25 +146,25 @@ returns c =
     let long = tasks_long k (c.well_formed.0.0, c.well_formed.0.1.1) in
     let passed = sym (ground day_length k a.h a.list q.r_value q.sort_value q.i_value next_at c.state_refusal-number.ensures) ∙ c.if-number-ne0.false in
     let told : TellsFor (asked_kind a.sort) n k.tasks c.if-is_missing.writers =
-        rw (← c.asked_kind.ensures)
-        (elim c.if-is_missing.branch
-        [ then-is_missing w ↦ (ready_told v n k.tasks w.writers-is w.writers_of-writers.ensures).1
-        | else-is_missing w ↦
+    rw (← c.asked_kind.ensures)
+    (elim c.if-is_missing.branch [
+      | then-is_missing w ↦ (ready_told v n k.tasks w.writers-is w.writers_of-writers.ensures).1
+      | else-is_missing w ↦
           (ready_known v n k.tasks (w.writers-is ∙ c.no_writers-writers.ensures) (known_none n k.tasks) (rw c.no_writers-writers.ensures at c.is_missing.ensures) w.if-is_missing.false).1
-        ]) in
+    ]) in
     -- The task is the only one that may have turned.
     let turned : Turned n k.tasks new c.with_turn-turned.result =
-        rw c.with_turn-turned.ensures
-        (turned_more n k.tasks k.tasks _ (c.nobody_turned.ensures n k.tasks) a.i (omega (arith, at, long)) refl c.change_of-c.result.task) in
+    rw c.with_turn-turned.ensures
+    (turned_more n k.tasks k.tasks _ (c.nobody_turned.ensures n k.tasks) a.i (omega (arith, at, long)) refl c.change_of-c.result.task) in
     -- The next event, kept or found again.
     let next : c.if-soonest.next ≡ next_among k.now n new =
-        elim c.if-soonest.branch
-        [ then-soonest w ↦ w.next-is ∙ w.next_event-next.ensures
-        | else-soonest w ↦
+    elim c.if-soonest.branch [
+      | then-soonest w ↦ w.next-is ∙ w.next_event-next.ensures
+      | else-soonest w ↦
           w.next-is ∙ next_at
           ∙ next_kept k.now n k.tasks a.i c.change_of-c.result.task (omega (arith, at, long))
           (sym c.soonest.ensures ∙ ap moment_of w.if-soonest.false ∙ c.soonest-2.ensures)
-        ] in
+    ] in
     c.finished.ensures k.tasks turned
     ∙ change_done day_length k a.h a.list valid_at q.list_value passed q.sort_value q.sort_value_2 (q.i_value ∙ ap (task_of a.sort a.h) q.r_value)
     (c.change_of-c.ensures n k.tasks told) c.no_sets.ensures c.put_marks.ensures next

@@ -81,9 +81,9 @@ loop-i-init c =
     let runs = sym c.requires.r_value in (
       search rules,
       rw c.no_sets-s.ensures (made_none _ _),
-      elim c.match-r.branch
-      [ in-Runs w ↦ leading_from k.places k.tasks k.counts.tasks long w.in-Runs.j (runs ∙ w.in-Runs.is) c.no_lead-lead.ensures (rw w.lead-is w.against_if-lead.ensures)
-      | in_default w ↦ leading_none k.places k.tasks k.counts.tasks long (runs ∙ w.in_default.is) (w.lead-is ∙ c.no_lead-lead.ensures)
+      elim c.match-r.branch [
+        | in-Runs w ↦ leading_from k.places k.tasks k.counts.tasks long w.in-Runs.j (runs ∙ w.in-Runs.is) c.no_lead-lead.ensures (rw w.lead-is w.against_if-lead.ensures)
+        | in_default w ↦ leading_none k.places k.tasks k.counts.tasks long (runs ∙ w.in_default.is) (w.lead-is ∙ c.no_lead-lead.ensures)
       ],
       λ e j l. absurd (omega arith),
       till_none _,
@@ -137,42 +137,42 @@ loop-i-preserved c =
     let less : i < length k.tasks = omega (arith, long, inside k i v c.loop-i-test.true) in
     let same = task_now f k i less h.1 in
     let standing : (b : Bool) → cond b most_tasks (place_at o.k.places i) ≡ cond b most_tasks (place_at k.places i) =
-        λ (b : Bool). ap (λ (q : State). cond b most_tasks (place_at q.places i)) h.1.state in
+    λ (b : Bool). ap (λ (q : State). cond b most_tasks (place_at q.places i)) h.1.state in
     let kept : (m : ℕ) → m < i → task_at o.k.tasks m ≡ task_at c.if-may_come.k.tasks m =
-        λ (m : ℕ) (b : m < i).
-        elim c.if-may_come.branch
-        [ then-may_come w ↦ sym (ap (λ (q : State). task_at q.tasks m) w.k-is ∙ get_or-set_other o.k.tasks i m w.tick-u.result.task no_task (λ z. omega arith))
-        | else-may_come w ↦ sym (ap (λ (q : State). task_at q.tasks m) w.k-is)
-        ] in (
+    λ (m : ℕ) (b : m < i).
+    elim c.if-may_come.branch [
+      | then-may_come w ↦ sym (ap (λ (q : State). task_at q.tasks m) w.k-is ∙ get_or-set_other o.k.tasks i m w.tick-u.result.task no_task (λ z. omega arith))
+      | else-may_come w ↦ sym (ap (λ (q : State). task_at q.tasks m) w.k-is)
+    ] in (
       search rules,
-      elim c.if-may_come.branch
-      [ then-may_come w ↦ made_more f k i less h.1 w.tick-u.result w.tick-u.ensures w.k-is (w.s-is ∙ w.put_marks-s.ensures)
-      | else-may_come w ↦ made_still f k i less h.1 (still n t (nothing_comes n t (sym c.may_come.ensures ∙ w.if-may_come.false))) w.k-is w.s-is
+      elim c.if-may_come.branch [
+        | then-may_come w ↦ made_more f k i less h.1 w.tick-u.result w.tick-u.ensures w.k-is (w.s-is ∙ w.put_marks-s.ensures)
+        | else-may_come w ↦ made_still f k i less h.1 (still n t (nothing_comes n t (sym c.may_come.ensures ∙ w.if-may_come.false))) w.k-is w.s-is
       ],
-      elim c.if-may_come.branch
-      [ then-may_come w ↦
-        leading_more n k.places o.turned o.k.tasks k.counts.tasks i c.loop-i-test.true (fits k v)
-        (places_apart day_length k v long n) h.4.above w.tick-u.result w.tick-u.ensures
-        h.2 (ap (λ (q : State). q.tasks) w.k-is) w.is_runnable-runs.ensures (unlike w.is_runnable.result w.is_runnable-runs.result ∙ ap₂ turned_if w.is_runnable.ensures w.is_runnable-runs.ensures)
-        (w.turned-is ∙ w.put_if-turned.ensures) (w.place_if.ensures ∙ standing (not (beq w.is_runnable.result w.is_runnable-runs.result))) w.against_if-lead-then-may_come.ensures w.lead-is
-      | else-may_come w ↦ leading_still h.2 (ap (λ (q : State). q.tasks) w.k-is) w.turned-is w.lead-is
+      elim c.if-may_come.branch [
+        | then-may_come w ↦
+            leading_more n k.places o.turned o.k.tasks k.counts.tasks i c.loop-i-test.true (fits k v)
+            (places_apart day_length k v long n) h.4.above w.tick-u.result w.tick-u.ensures
+            h.2 (ap (λ (q : State). q.tasks) w.k-is) w.is_runnable-runs.ensures (unlike w.is_runnable.result w.is_runnable-runs.result ∙ ap₂ turned_if w.is_runnable.ensures w.is_runnable-runs.ensures)
+            (w.turned-is ∙ w.put_if-turned.ensures) (w.place_if.ensures ∙ standing (not (beq w.is_runnable.result w.is_runnable-runs.result))) w.against_if-lead-then-may_come.ensures w.lead-is
+        | else-may_come w ↦ leading_still h.2 (ap (λ (q : State). q.tasks) w.k-is) w.turned-is w.lead-is
       ],
       (λ e.
-        elim c.if-may_come.branch
-        [ then-may_come w ↦
-          let x = neither o.altered w.is_altered-altered.result (sym w.altered-is ∙ e) in
-          steady_more f k.tasks i (h.3 x.0) t w.tick-u.result same w.tick-u.ensures w.is_altered-altered.ensures x.1
-        | else-may_come w ↦ steady_still f k.tasks i (h.3 (sym w.altered-is ∙ e)) (rw (← same) (still n t (nothing_comes n t (sym c.may_come.ensures ∙ w.if-may_come.false))))
-        ]),
-      elim c.if-may_come.branch
-      [ then-may_come w ↦
-        till_more _ h.4 (unlike w.is_runnable.result w.is_runnable-runs.result ∙ ap₂ turned_if (w.is_runnable.ensures ∙ ap runnable same) (w.is_runnable-runs.ensures ∙ ap (λ (u : Turn). runnable u.task) (w.tick-u.ensures ∙ ap f same)))
-        (w.turned-is ∙ w.put_if-turned.ensures)
-      | else-may_come w ↦ till_still _ h.4 (rw (← same, still n t (nothing_comes n t (sym c.may_come.ensures ∙ w.if-may_come.false))) (unturned (runnable t))) w.turned-is
+          elim c.if-may_come.branch [
+            | then-may_come w ↦
+                let x = neither o.altered w.is_altered-altered.result (sym w.altered-is ∙ e) in
+                steady_more f k.tasks i (h.3 x.0) t w.tick-u.result same w.tick-u.ensures w.is_altered-altered.ensures x.1
+            | else-may_come w ↦ steady_still f k.tasks i (h.3 (sym w.altered-is ∙ e)) (rw (← same) (still n t (nothing_comes n t (sym c.may_come.ensures ∙ w.if-may_come.false))))
+          ]),
+      elim c.if-may_come.branch [
+        | then-may_come w ↦
+            till_more _ h.4 (unlike w.is_runnable.result w.is_runnable-runs.result ∙ ap₂ turned_if (w.is_runnable.ensures ∙ ap runnable same) (w.is_runnable-runs.ensures ∙ ap (λ (u : Turn). runnable u.task) (w.tick-u.ensures ∙ ap f same)))
+            (w.turned-is ∙ w.put_if-turned.ensures)
+        | else-may_come w ↦ till_still _ h.4 (rw (← same, still n t (nothing_comes n t (sym c.may_come.ensures ∙ w.if-may_come.false))) (unturned (runnable t))) w.turned-is
       ],
       among_more n c.if-may_come.k.tasks i o.soonest c.sooner_end-soonest.result
-      (h.5 ∙ among_same n o.k.tasks c.if-may_come.k.tasks i kept)
-      (rw (← c.sooner_due-soonest.ensures, ← c.sooner_due.ensures) c.sooner_end-soonest.ensures),
+          (h.5 ∙ among_same n o.k.tasks c.if-may_come.k.tasks i kept)
+          (rw (← c.sooner_due-soonest.ensures, ← c.sooner_due.ensures) c.sooner_end-soonest.ensures),
     )
 
 pub finished-z-requires : goal.finished-z-requires
@@ -209,17 +209,17 @@ returns c d =
     let t : Till (turns n k) k.counts.tasks l.turned = rw (le_antisymm l.invariant.0 c.loop-i-test.false) at l.invariant.4 in
     let x = c.moment_of-next.ensures ∙ l.invariant.5 ∙ ap (λ (i : ℕ). next_among n i l.k.tasks) (le_antisymm l.invariant.0 c.loop-i-test.false) in
     let idle : l.altered ≡ false → next_served k.counts.tasks k.places (served (every_done k n f) 0) ≡ Idle =
-        λ (e : l.altered ≡ false).
-        every_idle day_length k v long n f (λ t h. tick_keeps day_length k.counts n t h) (λ j b. l.invariant.3 e j (omega (arith, b, c.loop-i-test.false))) in
+    λ (e : l.altered ≡ false).
+    every_idle day_length k v long n f (λ t h. tick_keeps day_length k.counts n t h) (λ j b. l.invariant.3 e j (omega (arith, b, c.loop-i-test.false))) in
     let ends : record { state = begun_at n (with_file (record { running = c.if-altered.runner; next = c.moment_of-next.result }) c.if-altered.k); answer = answer_of 0 c.if-altered.runner c.if-altered.s } ≡ finish k (every_turn k n f) =
-        elim c.if-altered.branch
-        [ then-altered z ↦
+    elim c.if-altered.branch [
+      | then-altered z ↦
           every_served k n f w.0 w.1 (z.finished-z.ensures k.tasks (subst (λ (q : State). Turned q.counts.tasks k.tasks q.tasks (record { runnable = l.turned; waiting = 0 })) (sym w.0) (turned_all day_length k v long n l.turned t))) z.k-is z.s-is z.runner-is x
-        | else-altered z ↦
+      | else-altered z ↦
           let o = turned_moves day_length k v long n l.turned t (z.moved-places.ensures ∙ ap (λ (q : State). moved k.counts.tasks (λ i. holds i l.turned) q.places) w.0) in
           every_unserved k n f w.0 (z.s-is ∙ w.1) (idle z.if-altered.false) o
           (z.runner-is ∙ c.who-runner.ensures ∙ turned_leads day_length k v long n l.turned t (tables_long k own).places (subst (λ (q : State). Leading k.places l.turned q.tasks k.counts.tasks l.lead) w.0 l.invariant.2) o) z.k-is x
-        ] in
+    ] in
     rw (c.answer_of.ensures, c.begun_at.ensures) ends
     ∙ ap (λ (x : Instant). finish k (arrive k x)) there
     ∙ accepted k c.args.mark q.mark_value q.next_value c.time_refusal-number.ensures c.if-number-ne0.false d _

@@ -7,8 +7,7 @@ use Rattle.lines.proofs.line_at.Goals as goal
 
 pub returns : goal.returns
 unfolding line
-returns c =
-    (
-      then (then c.byte_at-running.ensures.0 c.running_at-sets.ensures.0 (omega arith)) c.sets_at.ensures.0 (omega arith),
-      omega arith,
-    )
+returns c = (
+  then (then c.byte_at-running.ensures.0 c.running_at-sets.ensures.0 (omega arith)) c.sets_at.ensures.0 (omega arith),
+  omega arith,
+)

@@ -47,23 +47,23 @@ returns-in-Nothing c = rw c.in-Nothing.is
 pub returns-after-way : goal.returns-after-way
 unfolding move_one
 returns-after-way c =
-    elim c.match-way.branch
-    [ in-Take w ↦ rw (c.in-Request.is, w.in-Take.is, w.self-is)
-    | in-Give w ↦ rw (c.in-Request.is, w.in-Give.is, w.self-is)
+    elim c.match-way.branch [
+      | in-Take w ↦ rw (c.in-Request.is, w.in-Take.is, w.self-is)
+      | in-Give w ↦ rw (c.in-Request.is, w.in-Give.is, w.self-is)
     ]
 
 pub returns-after-way-2 : goal.returns-after-way-2
 unfolding move_one
 returns-after-way-2 c =
-    elim c.match-way-2.branch
-    [ in-Take-way w ↦ rw (c.in-Reserve.is, w.in-Take-way.is, w.b-is)
-    | in-Give-way w ↦ rw (c.in-Reserve.is, w.in-Give-way.is, w.b-is)
+    elim c.match-way-2.branch [
+      | in-Take-way w ↦ rw (c.in-Reserve.is, w.in-Take-way.is, w.b-is)
+      | in-Give-way w ↦ rw (c.in-Reserve.is, w.in-Give-way.is, w.b-is)
     ]
 
 pub returns-after-way-3 : goal.returns-after-way-3
 unfolding move_one
 returns-after-way-3 c =
-    elim c.match-way-3.branch
-    [ in-Take-way-2 w ↦ rw (c.in-Enter.is, w.in-Take-way-2.is, w.b-is)
-    | in-Give-way-2 w ↦ rw (c.in-Enter.is, w.in-Give-way-2.is, w.b-is)
+    elim c.match-way-3.branch [
+      | in-Take-way-2 w ↦ rw (c.in-Enter.is, w.in-Take-way-2.is, w.b-is)
+      | in-Give-way-2 w ↦ rw (c.in-Enter.is, w.in-Give-way-2.is, w.b-is)
     ]
