@@ -1,10 +1,8 @@
 -- What is left to store is the text of the rest.
-use borrow.Author.Rules.{rules}
 use mathlib.Core.Path.{◌≡◌, refl, ◌∙◌}
-use Prim.Native.Nat.{◌+◌, ◌-◌, ◌/◌, ◌%◌, ◌≤◌}
+use Prim.Native.Nat.{◌+◌, ◌-◌, ◌/◌, ◌%◌}
 use native.Mathlib.Omega.{arith}
 use lib.ListN.{length, length-set}
-use Rattle.lines.specs.Buffers.{placed}
 use Rattle.lines.specs.Decimals.{digit, decimal}
 use Rattle.lines.proofs.DecimalLaws.{decimal_one, decimal_more, word_long, one_long, more_long}
 use Rattle.lines.proofs.PlacedLaws.{stored, last_first}
@@ -65,6 +63,6 @@ returns c =
     record {
       place = omega arith;
       buffer =
-          stored c.loop-rest.out at (digit rest) (slice_write_out_2 c)
+          stored c.loop-rest.out at (digit rest) (omega (arith, one_long rest c.loop-rest-test.false))
           ∙ rw (← decimal_one rest c.loop-rest-test.false) c.loop-rest.invariant.3;
     }

@@ -1,13 +1,9 @@
 -- What is left to store is the text of the rest.
-use borrow.Author.Rules.{rules}
-use mathlib.Core.Path.{◌≡◌, refl, ◌∙◌}
-use Prim.Native.Nat.{◌+◌, ◌-◌, ◌/◌, ◌%◌, ◌≤◌}
-use native.Mathlib.Omega.{arith}
-use lib.ListN.{length, length-set}
+use mathlib.Core.Path.{◌≡◌}
+use Prim.Native.Nat.{◌+◌, ◌≤◌}
+use lib.ListN.{length}
 use Rattle.lines.specs.Buffers.{placed}
-use Rattle.lines.specs.Decimals.{digit, decimal}
-use Rattle.lines.proofs.DecimalLaws.{decimal_one, decimal_more, word_long, one_long, more_long}
-use Rattle.lines.proofs.PlacedLaws.{stored, last_first}
+use Rattle.lines.specs.Decimals.{decimal}
 use Rattle.lines.proofs.digits_at.Given as goal
 
 abbrev pub invariant-loop-rest : goal.invariant-loop-rest

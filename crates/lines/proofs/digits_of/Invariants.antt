@@ -1,10 +1,8 @@
 -- Each turn splits one digit off.
 use mathlib.Core.Path.{◌≡◌}
 use Prim.Native.Nat.{◌+◌}
-use native.Mathlib.Omega.{arith}
 use lib.ListN.{length}
 use Rattle.lines.specs.Decimals.{decimal}
-use Rattle.lines.proofs.DecimalLaws.{word_long, one_long, more_long}
 use Rattle.lines.proofs.digits_of.Given as goal
 
 abbrev pub invariant-loop-rest : goal.invariant-loop-rest

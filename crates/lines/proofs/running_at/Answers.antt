@@ -1,5 +1,4 @@
 -- A space before a dash or before the task.
-use borrow.Author.Rules.{rules}
 use mathlib.Core.Path.{◌∙◌}
 use native.Mathlib.Omega.{arith}
 use lib.ListN.{length-set}
@@ -17,14 +16,14 @@ pub returns-in-Idle : goal.returns-in-Idle
 unfolding running_text
 returns-in-Idle c =
     let a = c.args in
-    rw c.in-Idle.is (two_wrote a.out.now a.at space dash (omega arith), omega arith)
+    rw c.in-Idle.is (record { wrote = two_wrote a.out.now a.at space dash (omega arith); upper_bound = omega arith })
 
 pub shape_of-out-in-Runs : goal.shape_of-out-in-Runs
-shape_of-out-in-Runs c = c.byte_at.auto.1.0 ∙ simp length-set
+shape_of-out-in-Runs c = c.byte_at.auto.out ∙ simp length-set
 
 pub returns-in-Runs : goal.returns-in-Runs
 unfolding running_text
 returns-in-Runs c =
     let w = c.byte_at in
     let a = c.args in
-    rw c.in-Runs.is (before_text a.out.now a.at space (omega arith) w.ensures.0, omega arith)
+    rw c.in-Runs.is (record { wrote = before_text a.out.now a.at space (omega arith) w.ensures.wrote; upper_bound = omega arith })

@@ -1,5 +1,4 @@
 -- A space before the number.
-use borrow.Author.Rules.{rules}
 use mathlib.Core.Path.{◌∙◌}
 use native.Mathlib.Omega.{arith}
 use lib.ListN.{length-set}
@@ -11,10 +10,10 @@ pub decimal_at-requires : goal.decimal_at-requires
 decimal_at-requires c = simp length-set (omega arith)
 
 pub shape_of-out : goal.shape_of-out
-shape_of-out c = c.decimal_at.auto.1.0 ∙ simp length-set
+shape_of-out c = c.decimal_at.auto.out ∙ simp length-set
 
 pub returns : goal.returns
 returns c =
     let d = c.decimal_at in
     let a = c.args in
-    (before_text a.out.now a.at space (omega arith) d.ensures.0, omega arith)
+    record { wrote = before_text a.out.now a.at space (omega arith) d.ensures.wrote; upper_bound = omega arith }
