@@ -1,20 +1,18 @@
 -- How many bytes are carried out, and how few stay.
 use mathlib.Core.Path.{◌≡◌, refl, ◌∙◌}
-use mathlib.Core.Bool.{Bool, true, false, not}
+use mathlib.Core.Bool.{true, false, not}
 use mathlib.Core.List.{List}
 use Prim.Native.Nat.{ℕ, ◌+◌, ◌-◌, ◌≤◌, ◌<◌}
 use native.Mathlib.Nat.{mod-lt}
 use native.Mathlib.Omega.{arith}
 use lib.Dec.{ltb, eqb}
-use lib.IntN.{ℤ, pos, negsuc}
 use lib.ListN.{length}
-use lib.Signed.{le_z}
-use borrow.Author.Tests.{lt-ltb, le-ltb, le-leb, eq-eqb, ne_eqb}
+use borrow.Author.Tests.{lt-ltb, le-ltb, eq-eqb, ne_eqb}
 use Rattle.layout.specs.Fields.{record_length}
-use Rattle.io.specs.Counts.{clamp_len}
 use Rattle.facts.proofs.Bools.{by_bool, by_eq, contra}
-use Rattle.feed.specs.Feeding.{whole_of, went_well, NothingRead, ReadOn}
+use Rattle.feed.specs.Feeding.{whole_of, went_well, brought, NothingRead, ReadOn}
 use Rattle.feed.specs.declared.Fed.{Fed}
+use Rattle.std.specs.Prelude.{Result, Ok, Err}
 
 module _ {held : ℕ} {before after : List ℕ} (r : Fed) (h : ReadOn held before after r) where
   -- What is carried out is no more than there is,
@@ -38,19 +36,16 @@ came_more held n =
 
 -- ---- a read that failed
 
-pub well_by_sign : (z : ℤ) → le_z (pos 0) z ≡ went_well z
-well_by_sign (pos n) = le-leb 0 n (omega arith)
-well_by_sign (negsuc n) = refl
+none_came : {E : Type 0} (got : Result ℕ E) → went_well got ≡ false → brought got ≡ 0
+none_came (Ok n) f = contra refl f
+none_came (Err e) f = refl
 
-none_came : (z : ℤ) (n most : ℕ) → went_well z ≡ false → n ≡ clamp_len z most → n ≡ 0
-none_came (pos k) n most f e = contra refl f
-none_came (negsuc k) n most f e = e
-
-pub failed_read : (held n whole : ℕ) (ok : Bool) (z : ℤ) (most : ℕ) → ok ≡ went_well z → n ≡ clamp_len z most
-    → whole ≡ whole_of (held + n) (not (eqb n 0)) → ok ≡ false
-    → NothingRead held (record { ok = ok; more = not (eqb n 0); whole = whole; total = held + n })
+-- The fields that read_on fills in.
+pub failed_read : (held : ℕ) {n : ℕ} {E : Type 0} (got : Result ℕ E) (r : Fed) → r.ok ≡ went_well got → n ≡ brought got
+    → r.total ≡ held + n → r.more ≡ not (eqb n 0) → r.whole ≡ whole_of r.total r.more → r.ok ≡ false → NothingRead held r
 unfolding whole_of
-failed_read held n whole ok z most well count e f =
-    let w : went_well z ≡ false = rw (← well) f in
-    let none = none_came z n most w count in
-    record { total = omega arith; more = rw (eq-eqb n 0 none); whole = omega (arith, rw (eq-eqb n 0 none) at e) }
+failed_read held {n} got r well count total more whole f =
+    let w : went_well got ≡ false = rw (← well) f in
+    let none : n ≡ 0 = count ∙ none_came got w in
+    let ends : r.more ≡ false = more ∙ rw (eq-eqb n 0 none) in
+    record { total = omega arith; more = ends; whole = omega (arith, rw ends at whole) }

@@ -1,0 +1,9 @@
+-- Each read fills what is left from its front.
+use Rattle.std.proofs.Common.{◌≤◌, ◌-◌, length}
+use Rattle.feed.proofs.read_full.Given as goal
+
+abbrev pub invariant-loop-done : goal.invariant-loop-done
+invariant-loop-done g l = l.done ≤ length l.buf
+
+abbrev pub decreases-loop-done : goal.decreases-loop-done
+decreases-loop-done g l = length l.buf - l.done
