@@ -38,124 +38,127 @@ fn expecting(kernel: Kernel, next: Moment) -> Kernel
 }
 
 // Prints a line with number 0 if this is the next event handed out, and with 1 if it isn't.
-fn show_next(kernel: Kernel, next: Moment) {
+fn show_next<P: Print>(rt: &P, kernel: Kernel, next: Moment) {
     let handed = kernel.next_event();
     if handed.is_same(next) {
-        show_number(0);
+        show_number(rt, 0);
     } else {
-        show_number(1);
+        show_number(rt, 1);
     }
 }
 
 // Task 0 runs and 1 is runnable. On file: 1, a number out of range, none, and then 0. The first three are handed out as
 // they are.
-fn one_runs() {
+fn one_runs<P: Print>(rt: &P) {
     let mut kernel = Kernel::fresh();
-    kernel = show(kernel.declare_task(5));
-    kernel = show(kernel.declare_task(6));
-    kernel = show(kernel.activate(0, 0, start(0, 0)));
-    kernel = show(kernel.activate(1, 0, start(0, 0)));
-    kernel = show(filing(kernel, Running::Runs(1)).tick());
-    show_running(kernel);
-    kernel = show(filing(kernel, Running::Runs(200)).tick());
-    show_running(kernel);
-    kernel = show(filing(kernel, Running::Idle).tick());
-    show_running(kernel);
-    show(filing(kernel, Running::Runs(0)).tick());
+    kernel = show(rt, kernel.declare_task(5));
+    kernel = show(rt, kernel.declare_task(6));
+    kernel = show(rt, kernel.activate(0, 0, start(0, 0)));
+    kernel = show(rt, kernel.activate(1, 0, start(0, 0)));
+    kernel = show(rt, filing(kernel, Running::Runs(1)).tick());
+    show_running(rt, kernel);
+    kernel = show(rt, filing(kernel, Running::Runs(200)).tick());
+    show_running(rt, kernel);
+    kernel = show(rt, filing(kernel, Running::Idle).tick());
+    show_running(rt, kernel);
+    show(rt, filing(kernel, Running::Runs(0)).tick());
 }
 
 // Task 0 has ended and 1 runs. On file: 0, which is terminated, 2, which isn't declared, and then 1. It ends too, and
 // nobody runs: 1 on file is wrong, none is right.
-fn after_ends() {
+fn after_ends<P: Print>(rt: &P) {
     let mut kernel = Kernel::fresh();
-    kernel = show(kernel.declare_task(5));
-    kernel = show(kernel.declare_task(6));
-    kernel = show(kernel.activate(0, 0, start(0, 0)));
-    kernel = show(kernel.activate(1, 0, start(0, 0)));
-    kernel = show(kernel.end());
-    kernel = show(filing(kernel, Running::Runs(0)).tick());
-    kernel = show(filing(kernel, Running::Runs(2)).tick());
-    kernel = show(filing(kernel, Running::Runs(1)).end());
-    show_running(kernel);
-    kernel = show(filing(kernel, Running::Runs(1)).tick());
-    show(filing(kernel, Running::Idle).tick());
+    kernel = show(rt, kernel.declare_task(5));
+    kernel = show(rt, kernel.declare_task(6));
+    kernel = show(rt, kernel.activate(0, 0, start(0, 0)));
+    kernel = show(rt, kernel.activate(1, 0, start(0, 0)));
+    kernel = show(rt, kernel.end());
+    kernel = show(rt, filing(kernel, Running::Runs(0)).tick());
+    kernel = show(rt, filing(kernel, Running::Runs(2)).tick());
+    kernel = show(rt, filing(kernel, Running::Runs(1)).end());
+    show_running(rt, kernel);
+    kernel = show(rt, filing(kernel, Running::Runs(1)).tick());
+    show(rt, filing(kernel, Running::Idle).tick());
 }
 
 // A kernel whose clock is wrong too is refused with 1. One whose clock is right is refused with 16 whatever is asked
 // for: no record, a late declaration, a task that isn't declared. With the right task on file these are 2, 2 and 5.
-fn in_order() {
+fn in_order<P: Print>(rt: &P) {
     let bytes = [0; 3];
     let mut kernel = Kernel::fresh();
-    kernel = show(kernel.declare_task(5));
-    kernel = show(kernel.activate(0, 0, start(0, 0)));
+    kernel = show(rt, kernel.declare_task(5));
+    kernel = show(rt, kernel.activate(0, 0, start(0, 0)));
     kernel = filing(kernel, Running::Idle);
     let mut k = kernel.state;
     k.clock = DAY_LENGTH;
-    show(Kernel { state: k }.tick());
-    kernel = show(kernel.step(&bytes));
-    kernel = show(kernel.declare_task(5));
-    kernel = show(kernel.terminate(9));
-    kernel = show(filing(kernel, Running::Runs(0)).step(&bytes));
-    kernel = show(kernel.declare_task(5));
-    show(kernel.terminate(9));
+    show(rt, Kernel { state: k }.tick());
+    kernel = show(rt, kernel.step(&bytes));
+    kernel = show(rt, kernel.declare_task(5));
+    kernel = show(rt, kernel.terminate(9));
+    kernel = show(rt, filing(kernel, Running::Runs(0)).step(&bytes));
+    kernel = show(rt, kernel.declare_task(5));
+    show(rt, kernel.terminate(9));
 }
 
 // A declaration is refused too, and an accepted one leaves none on file while nobody runs.
-fn declared() {
+fn declared<P: Print>(rt: &P) {
     let mut kernel = Kernel::fresh();
-    kernel = show(filing(kernel, Running::Runs(0)).declare_task(5));
-    kernel = show(filing(kernel, Running::Idle).declare_task(5));
-    show_running(kernel);
+    kernel = show(rt, filing(kernel, Running::Runs(0)).declare_task(5));
+    kernel = show(rt, filing(kernel, Running::Idle).declare_task(5));
+    show_running(rt, kernel);
 }
 
 // Task 0 starts at 3. On file: none, the ticks before and after it, the present instant, one above 2^42, which is
 // handed out as it is, and then 3. After the sleep nothing is to come: 3, which is now, and 5 are wrong, none is right.
-fn one_comes() {
+fn one_comes<P: Print>(rt: &P) {
     let mut kernel = Kernel::fresh();
-    kernel = show(kernel.declare_task(5));
-    show_next(kernel, Moment::Never);
-    kernel = show(kernel.activate(0, 0, start(2, 3)));
-    show_next(kernel, Moment::At(Instant(3)));
-    kernel = show(expecting(kernel, Moment::Never).tick());
-    kernel = show(expecting(kernel, Moment::At(Instant(2))).sleep());
-    kernel = show(expecting(kernel, Moment::At(Instant(4))).sleep());
-    kernel = show(expecting(kernel, Moment::At(Instant(0))).tick());
-    kernel = show(expecting(kernel, Moment::At(Instant(TOO_FAR))).tick());
-    show_next(kernel, Moment::At(Instant(TOO_FAR)));
-    kernel = show(expecting(kernel, Moment::At(Instant(3))).sleep());
-    kernel = show(kernel.sleep());
-    kernel = show(expecting(kernel, Moment::At(Instant(3))).tick());
-    kernel = show(expecting(kernel, Moment::At(Instant(5))).sleep());
-    kernel = show(expecting(kernel, Moment::Never).tick());
-    show_next(kernel, Moment::Never);
+    kernel = show(rt, kernel.declare_task(5));
+    show_next(rt, kernel, Moment::Never);
+    kernel = show(rt, kernel.activate(0, 0, start(2, 3)));
+    show_next(rt, kernel, Moment::At(Instant(3)));
+    kernel = show(rt, expecting(kernel, Moment::Never).tick());
+    kernel = show(rt, expecting(kernel, Moment::At(Instant(2))).sleep());
+    kernel = show(rt, expecting(kernel, Moment::At(Instant(4))).sleep());
+    kernel = show(rt, expecting(kernel, Moment::At(Instant(0))).tick());
+    kernel = show(rt, expecting(kernel, Moment::At(Instant(TOO_FAR))).tick());
+    show_next(rt, kernel, Moment::At(Instant(TOO_FAR)));
+    kernel = show(rt, expecting(kernel, Moment::At(Instant(3))).sleep());
+    kernel = show(rt, kernel.sleep());
+    kernel = show(rt, expecting(kernel, Moment::At(Instant(3))).tick());
+    kernel = show(rt, expecting(kernel, Moment::At(Instant(5))).sleep());
+    kernel = show(rt, expecting(kernel, Moment::Never).tick());
+    show_next(rt, kernel, Moment::Never);
 }
 
 // Both wrong are one refusal; a clock that is wrong too goes before it, and no record goes behind it. Undeclared tasks'
 // schedules aren't looked at.
-fn next_in_order() {
+fn next_in_order<P: Print>(rt: &P) {
     let bytes = [0; 3];
     let mut kernel = Kernel::fresh();
-    kernel = show(kernel.declare_task(5));
-    kernel = show(kernel.activate(0, 0, start(0, 0)));
+    kernel = show(rt, kernel.declare_task(5));
+    kernel = show(rt, kernel.activate(0, 0, start(0, 0)));
     kernel = expecting(kernel, Moment::At(Instant(7)));
     let mut k = kernel.state;
     k.clock = DAY_LENGTH;
-    show(Kernel { state: k }.sleep());
-    kernel = show(kernel.step(&bytes));
-    kernel = show(filing(kernel, Running::Idle).sleep());
-    kernel = show(expecting(filing(kernel, Running::Runs(0)), Moment::Never).step(&bytes));
-    kernel = show(kernel.activate(0, 0, start(2, 1)));
+    show(rt, Kernel { state: k }.sleep());
+    kernel = show(rt, kernel.step(&bytes));
+    kernel = show(rt, filing(kernel, Running::Idle).sleep());
+    kernel = show(
+        rt,
+        expecting(filing(kernel, Running::Runs(0)), Moment::Never).step(&bytes),
+    );
+    kernel = show(rt, kernel.activate(0, 0, start(2, 1)));
     k = kernel.state;
     let t = k.tasks[0];
     k.tasks[1] = t;
-    show(Kernel { state: k }.sleep());
+    show(rt, Kernel { state: k }.sleep());
 }
 
-fn main() {
-    one_runs();
-    after_ends();
-    in_order();
-    declared();
-    one_comes();
-    next_in_order();
+fn main(rt: HostRuntime) {
+    one_runs(&rt);
+    after_ends(&rt);
+    in_order(&rt);
+    declared(&rt);
+    one_comes(&rt);
+    next_in_order(&rt);
 }

@@ -43,68 +43,82 @@ fn continuing(kernel: Kernel, continuation: Alarm) -> Kernel
 
 // A continuation on an interrupt that isn't declared, one with a delay that is too long, and one that is due beyond the
 // last stored instant. A priority 0 passes the test, and what pends at the present instant never comes.
-fn odd_continuations() {
+fn odd_continuations<P: Print>(rt: &P) {
     let mut kernel = Kernel::fresh();
-    kernel = show(kernel.declare_task(5));
-    kernel = show(kernel.declare_interrupt());
-    kernel = show(kernel.activate(0, 0, start(0, 0)));
-    kernel = show(kernel.suspend(0));
-    kernel = show(continuing(kernel, alarm(Plan::Armed, 1, 0, 0)).enable(0));
-    kernel = show(continuing(kernel, alarm(Plan::Armed, 0, TOO_LONG, 0)).enable(0));
-    kernel = show(continuing(kernel, alarm(Plan::Clock, 0, 0, TOO_FAR)).enable(0));
-    kernel = show(continuing(kernel, alarm(Plan::Triggered, 0, 0, 0)).enable(0));
-    kernel = show(kernel.tick());
-    show(kernel.trigger(0));
+    kernel = show(rt, kernel.declare_task(5));
+    kernel = show(rt, kernel.declare_interrupt());
+    kernel = show(rt, kernel.activate(0, 0, start(0, 0)));
+    kernel = show(rt, kernel.suspend(0));
+    kernel = show(
+        rt,
+        continuing(kernel, alarm(Plan::Armed, 1, 0, 0)).enable(0),
+    );
+    kernel = show(
+        rt,
+        continuing(kernel, alarm(Plan::Armed, 0, TOO_LONG, 0)).enable(0),
+    );
+    kernel = show(
+        rt,
+        continuing(kernel, alarm(Plan::Clock, 0, 0, TOO_FAR)).enable(0),
+    );
+    kernel = show(
+        rt,
+        continuing(kernel, alarm(Plan::Triggered, 0, 0, 0)).enable(0),
+    );
+    kernel = show(rt, kernel.tick());
+    show(rt, kernel.trigger(0));
 }
 
 // Prints the line of a tick of the kernel with other counts.
-fn tick_counting(kernel: Kernel, counts: Counts) {
+fn tick_counting<P: Print>(rt: &P, kernel: Kernel, counts: Counts) {
     let mut k = kernel.state;
     k.counts = counts;
-    show(Kernel { state: k }.tick());
+    show(rt, Kernel { state: k }.tick());
 }
 
 // The same with another task 0.
-fn tick_with(kernel: Kernel, t: Task) {
+fn tick_with<P: Print>(rt: &P, kernel: Kernel, t: Task) {
     let mut k = kernel.state;
     k.tasks[0] = t;
-    show(Kernel { state: k }.tick());
+    show(rt, Kernel { state: k }.tick());
 }
 
 // The same with another schedule of task 0.
-fn tick_on(kernel: Kernel, schedule: Schedule) {
+fn tick_on<P: Print>(rt: &P, kernel: Kernel, schedule: Schedule) {
     let k = kernel.state;
     let t = k.tasks[0];
-    tick_with(kernel, Task { schedule, ..t });
+    tick_with(rt, kernel, Task { schedule, ..t });
 }
 
 // The same with another alarm of that schedule.
-fn tick_by(kernel: Kernel, alarm: Alarm) {
+fn tick_by<P: Print>(rt: &P, kernel: Kernel, alarm: Alarm) {
     let k = kernel.state;
     let t = k.tasks[0];
     let s = t.schedule;
-    tick_on(kernel, Schedule { alarm, ..s });
+    tick_on(rt, kernel, Schedule { alarm, ..s });
 }
 
 // Counts and an instant one too large, and the counts of semaphores, bolts and interrupts that are just not. The only
 // task at place 32, which doesn't exist.
-fn counts_beyond() {
+fn counts_beyond<P: Print>(rt: &P) {
     let mut kernel = Kernel::fresh();
-    kernel = show(kernel.declare_task(5));
-    kernel = show(kernel.tick());
+    kernel = show(rt, kernel.declare_task(5));
+    kernel = show(rt, kernel.tick());
     let mut k = kernel.state;
     let c = k.counts;
-    tick_counting(kernel, Counts { tasks: 33, ..c });
+    tick_counting(rt, kernel, Counts { tasks: 33, ..c });
     tick_counting(
+        rt,
         kernel,
         Counts {
             semaphores: 17,
             ..c
         },
     );
-    tick_counting(kernel, Counts { bolts: 17, ..c });
-    tick_counting(kernel, Counts { interrupts: 9, ..c });
+    tick_counting(rt, kernel, Counts { bolts: 17, ..c });
+    tick_counting(rt, kernel, Counts { interrupts: 9, ..c });
     tick_counting(
+        rt,
         kernel,
         Counts {
             semaphores: 16,
@@ -115,18 +129,18 @@ fn counts_beyond() {
     );
     let late = Instant(LAST_INSTANT + 1);
     k.now = late;
-    show(Kernel { state: k }.tick());
+    show(rt, Kernel { state: k }.tick());
     k = kernel.state;
     k.places[0] = 32;
-    show(Kernel { state: k }.tick());
+    show(rt, Kernel { state: k }.tick());
 }
 
 // A task with a priority 0, declared, current or kept back; delayed for too long; terminated and held or with a start
 // kept back. Then one with all at their limits, and one that waits for nothing, whose list isn't looked at: they pass.
-fn tasks_beyond() {
+fn tasks_beyond<P: Print>(rt: &P) {
     let mut kernel = Kernel::fresh();
-    kernel = show(kernel.declare_task(5));
-    kernel = show(kernel.activate(0, 0, start(0, 0)));
+    kernel = show(rt, kernel.declare_task(5));
+    kernel = show(rt, kernel.activate(0, 0, start(0, 0)));
     let k = kernel.state;
     let t = k.tasks[0];
     let none = Kept::Back(0);
@@ -135,13 +149,14 @@ fn tasks_beyond() {
     let delayed = Hold::Delayed(Instant(9));
     let too_far = Hold::Delayed(Instant(TOO_FAR));
     let alive = false;
-    tick_with(kernel, Task { declared: 0, ..t });
-    tick_with(kernel, Task { current: 0, ..t });
-    tick_with(kernel, Task { kept: none, ..t });
-    tick_with(kernel, Task { hold: too_far, ..t });
+    tick_with(rt, kernel, Task { declared: 0, ..t });
+    tick_with(rt, kernel, Task { current: 0, ..t });
+    tick_with(rt, kernel, Task { kept: none, ..t });
+    tick_with(rt, kernel, Task { hold: too_far, ..t });
     let dead = Task { alive, ..t };
-    tick_with(kernel, Task { kept: last, ..dead });
+    tick_with(rt, kernel, Task { kept: last, ..dead });
     tick_with(
+        rt,
         kernel,
         Task {
             hold: suspended,
@@ -149,6 +164,7 @@ fn tasks_beyond() {
         },
     );
     tick_with(
+        rt,
         kernel,
         Task {
             hold: delayed,
@@ -156,6 +172,7 @@ fn tasks_beyond() {
         },
     );
     tick_with(
+        rt,
         kernel,
         Task {
             declared: 255,
@@ -164,14 +181,14 @@ fn tasks_beyond() {
             ..t
         },
     );
-    tick_with(kernel, t.wait_for(Wait::Nothing, 5, [200; 4]));
+    tick_with(rt, kernel, t.wait_for(Wait::Nothing, 5, [200; 4]));
 }
 
 // A delay until the largest stored instant, which nobody reaches.
-fn far_delay() {
+fn far_delay<P: Print>(rt: &P) {
     let mut kernel = Kernel::fresh();
-    kernel = show(kernel.declare_task(5));
-    kernel = show(kernel.activate(0, 0, start(0, 0)));
+    kernel = show(rt, kernel.declare_task(5));
+    kernel = show(rt, kernel.activate(0, 0, start(0, 0)));
     let mut k = kernel.state;
     let t = k.tasks[0];
     let hold = Hold::Delayed(Instant(MOST_INSTANT));
@@ -181,43 +198,43 @@ fn far_delay() {
         next: Moment::At(Instant(MOST_INSTANT)),
     };
     k.file = file;
-    kernel = show(Kernel { state: k }.tick());
-    kernel = show(kernel.sleep());
-    show(kernel.continue_task(0, 0, start(0, 0)));
+    kernel = show(rt, Kernel { state: k }.tick());
+    kernel = show(rt, kernel.sleep());
+    show(rt, kernel.continue_task(0, 0, start(0, 0)));
 }
 
 // A task that waits on a list which is empty, too long, has a number twice, an undeclared one, a free one; for an
 // undeclared bolt or a free one; and one that waits and is terminated.
-fn waits_beyond() {
+fn waits_beyond<P: Print>(rt: &P) {
     let mut kernel = Kernel::fresh();
-    kernel = show(kernel.declare_task(5));
-    kernel = show(kernel.declare_semaphore(0));
-    kernel = show(kernel.declare_semaphore(1));
-    kernel = show(kernel.declare_bolt());
-    kernel = show(kernel.activate(0, 0, start(0, 0)));
+    kernel = show(rt, kernel.declare_task(5));
+    kernel = show(rt, kernel.declare_semaphore(0));
+    kernel = show(rt, kernel.declare_semaphore(1));
+    kernel = show(rt, kernel.declare_bolt());
+    kernel = show(rt, kernel.activate(0, 0, start(0, 0)));
     let k = kernel.state;
     let t = k.tasks[0];
-    tick_with(kernel, t.wait_for(Wait::Request, 0, [0; 4]));
-    tick_with(kernel, t.wait_for(Wait::Request, 5, [0, 1, 2, 3]));
-    tick_with(kernel, t.wait_for(Wait::Request, 2, [0; 4]));
-    tick_with(kernel, t.wait_for(Wait::Request, 2, [0, 2, 0, 0]));
-    tick_with(kernel, t.wait_for(Wait::Request, 1, [1, 0, 0, 0]));
-    tick_with(kernel, t.wait_for(Wait::Enter, 1, [1, 0, 0, 0]));
-    tick_with(kernel, t.wait_for(Wait::Reserve, 1, [0; 4]));
+    tick_with(rt, kernel, t.wait_for(Wait::Request, 0, [0; 4]));
+    tick_with(rt, kernel, t.wait_for(Wait::Request, 5, [0, 1, 2, 3]));
+    tick_with(rt, kernel, t.wait_for(Wait::Request, 2, [0; 4]));
+    tick_with(rt, kernel, t.wait_for(Wait::Request, 2, [0, 2, 0, 0]));
+    tick_with(rt, kernel, t.wait_for(Wait::Request, 1, [1, 0, 0, 0]));
+    tick_with(rt, kernel, t.wait_for(Wait::Enter, 1, [1, 0, 0, 0]));
+    tick_with(rt, kernel, t.wait_for(Wait::Reserve, 1, [0; 4]));
     let alive = false;
     let dead = Task { alive, ..t };
-    tick_with(kernel, dead.wait_for(Wait::Request, 1, [0; 4]));
+    tick_with(rt, kernel, dead.wait_for(Wait::Request, 1, [0; 4]));
 }
 
 // A wait that no call began, on a list of which one isn't free, and is served.
-fn written_wait() {
+fn written_wait<P: Print>(rt: &P) {
     let mut kernel = Kernel::fresh();
-    kernel = show(kernel.declare_task(5));
-    kernel = show(kernel.declare_task(6));
-    kernel = show(kernel.declare_semaphore(0));
-    kernel = show(kernel.declare_semaphore(1));
-    kernel = show(kernel.activate(0, 0, start(0, 0)));
-    kernel = show(kernel.activate(1, 0, start(0, 0)));
+    kernel = show(rt, kernel.declare_task(5));
+    kernel = show(rt, kernel.declare_task(6));
+    kernel = show(rt, kernel.declare_semaphore(0));
+    kernel = show(rt, kernel.declare_semaphore(1));
+    kernel = show(rt, kernel.activate(0, 0, start(0, 0)));
+    kernel = show(rt, kernel.activate(1, 0, start(0, 0)));
     let mut k = kernel.state;
     let t = k.tasks[0];
     k.tasks[0] = t.wait_for(Wait::Request, 2, [0, 1, 0, 0]);
@@ -226,16 +243,16 @@ fn written_wait() {
         next: Moment::Never,
     };
     k.file = file;
-    kernel = show(Kernel { state: k }.tick());
-    show(kernel.release(1, [0; 4]));
+    kernel = show(rt, Kernel { state: k }.tick());
+    show(rt, kernel.release(1, [0; 4]));
 }
 
 // A schedule with priority 0, a period or end that is too long, a DURING of 0, a last due too far away. Then one with
 // all at their limits, which passes.
-fn schedules_beyond() {
+fn schedules_beyond<P: Print>(rt: &P) {
     let mut kernel = Kernel::fresh();
-    kernel = show(kernel.declare_task(5));
-    kernel = show(kernel.activate(0, 0, start(2, 9)));
+    kernel = show(rt, kernel.declare_task(5));
+    kernel = show(rt, kernel.activate(0, 0, start(2, 9)));
     let k = kernel.state;
     let t = k.tasks[0];
     let s = t.schedule;
@@ -244,8 +261,9 @@ fn schedules_beyond() {
     let longest = End::During(Duration(LONGEST_DURATION));
     let too_far = Moment::At(Instant(TOO_FAR));
     let last = Moment::At(Instant(MOST_INSTANT));
-    tick_on(kernel, Schedule { priority: 0, ..s });
+    tick_on(rt, kernel, Schedule { priority: 0, ..s });
     tick_on(
+        rt,
         kernel,
         Schedule {
             period: TOO_LONG,
@@ -253,15 +271,17 @@ fn schedules_beyond() {
         },
     );
     tick_on(
+        rt,
         kernel,
         Schedule {
             end: too_short,
             ..s
         },
     );
-    tick_on(kernel, Schedule { end: too_long, ..s });
-    tick_on(kernel, Schedule { last: too_far, ..s });
+    tick_on(rt, kernel, Schedule { end: too_long, ..s });
+    tick_on(rt, kernel, Schedule { last: too_far, ..s });
     tick_on(
+        rt,
         kernel,
         Schedule {
             last,
@@ -275,29 +295,29 @@ fn schedules_beyond() {
 // A schedule on an interrupt that isn't declared, before and after its trigger; with a delay that is too long; due too
 // late; a continuation on such an interrupt. Then those that pass: at the limits, and by the clock, where interrupt and
 // delay aren't looked at.
-fn alarms_beyond() {
+fn alarms_beyond<P: Print>(rt: &P) {
     let mut kernel = Kernel::fresh();
-    kernel = show(kernel.declare_task(5));
-    kernel = show(kernel.declare_task(6));
-    kernel = show(kernel.declare_interrupt());
-    kernel = show(kernel.activate(0, 0, start(2, 9)));
-    tick_by(kernel, alarm(Plan::Armed, 1, 0, 0));
-    tick_by(kernel, alarm(Plan::Triggered, 1, 0, 9));
-    tick_by(kernel, alarm(Plan::Triggered, 0, TOO_LONG, 9));
-    tick_by(kernel, alarm(Plan::Clock, 0, 0, TOO_FAR));
-    show(continuing(kernel, alarm(Plan::Armed, 1, 0, 0)).tick());
-    tick_by(kernel, alarm(Plan::Triggered, 0, LONGEST_DURATION, 9));
-    tick_by(kernel, alarm(Plan::Clock, 1, TOO_LONG, 9));
+    kernel = show(rt, kernel.declare_task(5));
+    kernel = show(rt, kernel.declare_task(6));
+    kernel = show(rt, kernel.declare_interrupt());
+    kernel = show(rt, kernel.activate(0, 0, start(2, 9)));
+    tick_by(rt, kernel, alarm(Plan::Armed, 1, 0, 0));
+    tick_by(rt, kernel, alarm(Plan::Triggered, 1, 0, 9));
+    tick_by(rt, kernel, alarm(Plan::Triggered, 0, TOO_LONG, 9));
+    tick_by(rt, kernel, alarm(Plan::Clock, 0, 0, TOO_FAR));
+    show(rt, continuing(kernel, alarm(Plan::Armed, 1, 0, 0)).tick());
+    tick_by(rt, kernel, alarm(Plan::Triggered, 0, LONGEST_DURATION, 9));
+    tick_by(rt, kernel, alarm(Plan::Clock, 1, TOO_LONG, 9));
 }
 
 // Of an armed schedule the next due isn't looked at. Of one that there isn't nothing is, and it never comes: at the tick
 // task 1 starts, and then nothing is to come.
-fn not_looked_at() {
+fn not_looked_at<P: Print>(rt: &P) {
     let mut kernel = Kernel::fresh();
-    kernel = show(kernel.declare_task(5));
-    kernel = show(kernel.declare_task(6));
-    kernel = show(kernel.declare_interrupt());
-    kernel = show(kernel.activate(1, 0, start(2, 1)));
+    kernel = show(rt, kernel.declare_task(5));
+    kernel = show(rt, kernel.declare_task(6));
+    kernel = show(rt, kernel.declare_interrupt());
+    kernel = show(rt, kernel.activate(1, 0, start(2, 1)));
     let mut k = kernel.state;
     let t = k.tasks[0];
     let s = t.schedule;
@@ -306,7 +326,7 @@ fn not_looked_at() {
         priority: 1,
         ..s
     };
-    tick_on(kernel, armed);
+    tick_on(rt, kernel, armed);
     let none = Schedule {
         alarm: alarm(Plan::None, 1, TOO_LONG, 5),
         ..s
@@ -315,32 +335,32 @@ fn not_looked_at() {
         schedule: none,
         ..t
     };
-    kernel = show(Kernel { state: k }.tick());
-    show(kernel.sleep());
+    kernel = show(rt, Kernel { state: k }.tick());
+    show(rt, kernel.sleep());
 }
 
 // A continuation that pends at the present instant, 1, is no event to come, and a start that is planned doesn't set it off.
-fn pending_now() {
+fn pending_now<P: Print>(rt: &P) {
     let mut kernel = Kernel::fresh();
-    kernel = show(kernel.declare_task(5));
-    kernel = show(kernel.activate(0, 0, start(0, 0)));
-    kernel = show(kernel.tick());
-    kernel = show(kernel.suspend(0));
+    kernel = show(rt, kernel.declare_task(5));
+    kernel = show(rt, kernel.activate(0, 0, start(0, 0)));
+    kernel = show(rt, kernel.tick());
+    kernel = show(rt, kernel.suspend(0));
     let pending = continuing(kernel, alarm(Plan::Clock, 0, 0, 1));
-    kernel = show(pending.activate(0, 0, start(2, 1)));
-    kernel = show(kernel.sleep());
-    show(kernel.sleep());
+    kernel = show(rt, pending.activate(0, 0, start(2, 1)));
+    kernel = show(rt, kernel.sleep());
+    show(rt, kernel.sleep());
 }
 
-fn main() {
-    odd_continuations();
-    counts_beyond();
-    tasks_beyond();
-    far_delay();
-    waits_beyond();
-    written_wait();
-    schedules_beyond();
-    alarms_beyond();
-    not_looked_at();
-    pending_now();
+fn main(rt: HostRuntime) {
+    odd_continuations(&rt);
+    counts_beyond(&rt);
+    tasks_beyond(&rt);
+    far_delay(&rt);
+    waits_beyond(&rt);
+    written_wait(&rt);
+    schedules_beyond(&rt);
+    alarms_beyond(&rt);
+    not_looked_at(&rt);
+    pending_now(&rt);
 }

@@ -13,153 +13,153 @@ use task::Task;
 const NOON: u32 = DAY_LENGTH / 2;
 
 // Two tasks ask for a semaphore and a bolt.
-fn locks() {
+fn locks<P: Print>(rt: &P) {
     let mut kernel = Kernel::fresh();
-    kernel = show(kernel.declare_task(5));
-    kernel = show(kernel.declare_task(3));
-    kernel = show(kernel.declare_semaphore(1));
-    kernel = show(kernel.declare_bolt());
-    kernel = show(kernel.activate(0, 0, start(0, 0)));
-    kernel = show(kernel.request(1, [0; 4]));
-    kernel = show(kernel.activate(1, 0, start(0, 0)));
-    kernel = show(kernel.try_request(0));
-    kernel = show(kernel.request(1, [0; 4]));
-    kernel = show(kernel.release(1, [0; 4]));
-    kernel = show(kernel.reserve(1, [0; 4]));
-    kernel = show(kernel.free(1, [0; 4]));
-    kernel = show(kernel.enter(1, [0; 4]));
-    kernel = show(kernel.leave(1, [0; 4]));
-    show(kernel.leave(1, [0; 4]));
+    kernel = show(rt, kernel.declare_task(5));
+    kernel = show(rt, kernel.declare_task(3));
+    kernel = show(rt, kernel.declare_semaphore(1));
+    kernel = show(rt, kernel.declare_bolt());
+    kernel = show(rt, kernel.activate(0, 0, start(0, 0)));
+    kernel = show(rt, kernel.request(1, [0; 4]));
+    kernel = show(rt, kernel.activate(1, 0, start(0, 0)));
+    kernel = show(rt, kernel.try_request(0));
+    kernel = show(rt, kernel.request(1, [0; 4]));
+    kernel = show(rt, kernel.release(1, [0; 4]));
+    kernel = show(rt, kernel.reserve(1, [0; 4]));
+    kernel = show(rt, kernel.free(1, [0; 4]));
+    kernel = show(rt, kernel.enter(1, [0; 4]));
+    kernel = show(rt, kernel.leave(1, [0; 4]));
+    show(rt, kernel.leave(1, [0; 4]));
 }
 
 // Holds and delays, and the ends of tasks.
-fn holds() {
+fn holds<P: Print>(rt: &P) {
     let mut kernel = Kernel::fresh();
-    kernel = show(kernel.declare_task(5));
-    kernel = show(kernel.declare_task(3));
-    kernel = show(kernel.activate(0, 0, start(0, 0)));
-    kernel = show(kernel.activate(1, 0, start(0, 0)));
-    kernel = show(kernel.suspend(1));
-    kernel = show(kernel.continue_task(1, 7, start(0, 0)));
-    kernel = show(kernel.resume(start(0, 2)));
-    kernel = show(kernel.tick());
-    kernel = show(kernel.tick());
-    kernel = show(kernel.end());
-    kernel = show(kernel.terminate(1));
-    kernel = show(kernel.end());
-    show(kernel.declare_bolt());
+    kernel = show(rt, kernel.declare_task(5));
+    kernel = show(rt, kernel.declare_task(3));
+    kernel = show(rt, kernel.activate(0, 0, start(0, 0)));
+    kernel = show(rt, kernel.activate(1, 0, start(0, 0)));
+    kernel = show(rt, kernel.suspend(1));
+    kernel = show(rt, kernel.continue_task(1, 7, start(0, 0)));
+    kernel = show(rt, kernel.resume(start(0, 2)));
+    kernel = show(rt, kernel.tick());
+    kernel = show(rt, kernel.tick());
+    kernel = show(rt, kernel.end());
+    kernel = show(rt, kernel.terminate(1));
+    kernel = show(rt, kernel.end());
+    show(rt, kernel.declare_bolt());
 }
 
 // Starts by interrupt 0: made, kept back, lost.
-fn starts() {
+fn starts<P: Print>(rt: &P) {
     let mut kernel = Kernel::fresh();
-    kernel = show(kernel.declare_task(5));
-    kernel = show(kernel.declare_interrupt());
-    kernel = show(kernel.declare_clock(NOON));
-    kernel = show(kernel.activate(0, 0, start(3, 0)));
-    kernel = show(kernel.trigger(0));
-    kernel = show(kernel.enable(0));
-    kernel = show(kernel.trigger(0));
-    kernel = show(kernel.trigger(0));
-    kernel = show(kernel.trigger(0));
-    kernel = show(kernel.disable(0));
-    kernel = show(kernel.trigger(0));
-    show(kernel.prevent(0));
+    kernel = show(rt, kernel.declare_task(5));
+    kernel = show(rt, kernel.declare_interrupt());
+    kernel = show(rt, kernel.declare_clock(NOON));
+    kernel = show(rt, kernel.activate(0, 0, start(3, 0)));
+    kernel = show(rt, kernel.trigger(0));
+    kernel = show(rt, kernel.enable(0));
+    kernel = show(rt, kernel.trigger(0));
+    kernel = show(rt, kernel.trigger(0));
+    kernel = show(rt, kernel.trigger(0));
+    kernel = show(rt, kernel.disable(0));
+    kernel = show(rt, kernel.trigger(0));
+    show(rt, kernel.prevent(0));
 }
 
 // CONTINUE and RESUME on a schedule: WHEN, AFTER, AT the present time; and those that are refused.
-fn continuations() {
+fn continuations<P: Print>(rt: &P) {
     let mut kernel = Kernel::fresh();
-    kernel = show(kernel.declare_task(5));
-    kernel = show(kernel.declare_task(3));
-    kernel = show(kernel.declare_interrupt());
-    kernel = show(kernel.activate(0, 0, start(0, 0)));
-    kernel = show(kernel.activate(1, 0, start(0, 0)));
-    kernel = show(kernel.resume(start(3, 0)));
-    kernel = show(kernel.suspend(1));
-    kernel = show(kernel.enable(0));
-    kernel = show(kernel.trigger(0));
-    kernel = show(kernel.suspend(0));
-    kernel = show(kernel.continue_task(0, 1, start(2, 1)));
-    kernel = show(kernel.tick());
-    kernel = show(kernel.continue_task(0, 0, start(5, 0)));
-    kernel = show(kernel.resume(start(1, 1)));
-    show(kernel.continue_task(0, 0, start(0, 0)));
+    kernel = show(rt, kernel.declare_task(5));
+    kernel = show(rt, kernel.declare_task(3));
+    kernel = show(rt, kernel.declare_interrupt());
+    kernel = show(rt, kernel.activate(0, 0, start(0, 0)));
+    kernel = show(rt, kernel.activate(1, 0, start(0, 0)));
+    kernel = show(rt, kernel.resume(start(3, 0)));
+    kernel = show(rt, kernel.suspend(1));
+    kernel = show(rt, kernel.enable(0));
+    kernel = show(rt, kernel.trigger(0));
+    kernel = show(rt, kernel.suspend(0));
+    kernel = show(rt, kernel.continue_task(0, 1, start(2, 1)));
+    kernel = show(rt, kernel.tick());
+    kernel = show(rt, kernel.continue_task(0, 0, start(5, 0)));
+    kernel = show(rt, kernel.resume(start(1, 1)));
+    show(rt, kernel.continue_task(0, 0, start(0, 0)));
 }
 
 // The last instant, reached by writing it into the kernel.
-fn last_instant() {
+fn last_instant<P: Print>(rt: &P) {
     let mut kernel = Kernel::fresh();
-    kernel = show(kernel.declare_task(5));
+    kernel = show(rt, kernel.declare_task(5));
     let near = Instant(LAST_INSTANT - 1);
     let mut k = kernel.state;
     k.now = near;
-    kernel = show(Kernel { state: k }.activate(0, 0, start(0, 0)));
-    kernel = show(kernel.tick());
-    kernel = show(kernel.tick());
-    kernel = show(kernel.terminate(0));
-    show(kernel.tick());
+    kernel = show(rt, Kernel { state: k }.activate(0, 0, start(0, 0)));
+    kernel = show(rt, kernel.tick());
+    kernel = show(rt, kernel.tick());
+    kernel = show(rt, kernel.terminate(0));
+    show(rt, kernel.tick());
 }
 
 // A start that falls on the last instant, by a tick.
-fn last_due() {
+fn last_due<P: Print>(rt: &P) {
     let mut kernel = Kernel::fresh();
-    kernel = show(kernel.declare_task(5));
+    kernel = show(rt, kernel.declare_task(5));
     let near = Instant(LAST_INSTANT - 1);
     let mut k = kernel.state;
     k.now = near;
-    kernel = show(Kernel { state: k }.activate(0, 0, start(2, 1)));
-    kernel = show(kernel.tick());
-    show(kernel.tick());
+    kernel = show(rt, Kernel { state: k }.activate(0, 0, start(2, 1)));
+    kernel = show(rt, kernel.tick());
+    show(rt, kernel.tick());
 }
 
 // A tick's bytes with one too few and one too many are no record.
-fn other_lengths() {
+fn other_lengths<P: Print>(rt: &P) {
     let mut kernel = Kernel::fresh();
-    kernel = show(kernel.declare_task(5));
+    kernel = show(rt, kernel.declare_task(5));
     let mut short = [0; 23];
     short[0] = b'T';
     short[1] = b'I';
     let mut long = [0; 25];
     long[0] = b'T';
     long[1] = b'I';
-    kernel = show(kernel.step(&short));
-    kernel = show(kernel.step(&long));
-    show(kernel.tick());
+    kernel = show(rt, kernel.step(&short));
+    kernel = show(rt, kernel.step(&long));
+    show(rt, kernel.tick());
 }
 
 // A kernel value outside the limits, and back inside.
-fn beyond_limits() {
+fn beyond_limits<P: Print>(rt: &P) {
     let mut kernel = Kernel::fresh();
-    kernel = show(kernel.declare_task(5));
-    kernel = show(kernel.activate(0, 0, start(0, 0)));
+    kernel = show(rt, kernel.declare_task(5));
+    kernel = show(rt, kernel.activate(0, 0, start(0, 0)));
     let mut k = kernel.state;
     k.clock = DAY_LENGTH;
-    kernel = show(Kernel { state: k }.tick());
-    kernel = show(kernel.step(b"TI"));
+    kernel = show(rt, Kernel { state: k }.tick());
+    kernel = show(rt, kernel.step(b"TI"));
     k = kernel.state;
     k.clock = DAY_LENGTH - 1;
-    show(Kernel { state: k }.tick());
+    show(rt, Kernel { state: k }.tick());
 }
 
 // Places written into a kernel with two equal tasks: one taken twice, one out of range, one of an undeclared task, and
 // both exchanged, with the task on file that runs then.
-fn other_places() {
+fn other_places<P: Print>(rt: &P) {
     let mut kernel = Kernel::fresh();
-    kernel = show(kernel.declare_task(5));
-    kernel = show(kernel.declare_task(5));
-    kernel = show(kernel.activate(0, 0, start(0, 0)));
-    kernel = show(kernel.activate(1, 0, start(0, 0)));
+    kernel = show(rt, kernel.declare_task(5));
+    kernel = show(rt, kernel.declare_task(5));
+    kernel = show(rt, kernel.activate(0, 0, start(0, 0)));
+    kernel = show(rt, kernel.activate(1, 0, start(0, 0)));
     let mut k = kernel.state;
     k.places[1] = 0;
-    kernel = show(Kernel { state: k }.tick());
+    kernel = show(rt, Kernel { state: k }.tick());
     k = kernel.state;
     k.places[1] = 2;
-    kernel = show(Kernel { state: k }.tick());
+    kernel = show(rt, Kernel { state: k }.tick());
     k = kernel.state;
     k.places[1] = 1;
     k.places[2] = 1;
-    kernel = show(Kernel { state: k }.tick());
+    kernel = show(rt, Kernel { state: k }.tick());
     k = kernel.state;
     k.places[0] = 1;
     k.places[1] = 0;
@@ -168,17 +168,17 @@ fn other_places() {
         next: Moment::Never,
     };
     k.file = file;
-    show(Kernel { state: k }.tick());
+    show(rt, Kernel { state: k }.tick());
 }
 
 // A schedule that no call leaves and that passes the test: its next due after its last, an end and no period. The
 // current priority of its task, which is terminated, isn't the declared one.
-fn odd_schedule() {
+fn odd_schedule<P: Print>(rt: &P) {
     let mut kernel = Kernel::fresh();
-    kernel = show(kernel.declare_task(5));
-    kernel = show(kernel.declare_task(6));
-    kernel = show(kernel.activate(1, 0, start(0, 0)));
-    kernel = show(kernel.activate(0, 0, start(2, 1)));
+    kernel = show(rt, kernel.declare_task(5));
+    kernel = show(rt, kernel.declare_task(6));
+    kernel = show(rt, kernel.activate(1, 0, start(0, 0)));
+    kernel = show(rt, kernel.activate(0, 0, start(2, 1)));
     let mut k = kernel.state;
     let t = k.tasks[0];
     let s = t.schedule;
@@ -190,18 +190,18 @@ fn odd_schedule() {
         schedule,
         ..t
     };
-    kernel = show(Kernel { state: k }.tick());
-    show(kernel.tick());
+    kernel = show(rt, Kernel { state: k }.tick());
+    show(rt, kernel.tick());
 }
 
 // The last of an armed schedule isn't looked at, the end of one that waits for its next due is. Then the kernel fails
 // the test, and its running task is the one on file.
-fn stored_ends() {
+fn stored_ends<P: Print>(rt: &P) {
     let mut kernel = Kernel::fresh();
-    kernel = show(kernel.declare_task(5));
-    kernel = show(kernel.declare_interrupt());
-    kernel = show(kernel.activate(0, 0, start(0, 0)));
-    kernel = show(kernel.activate(0, 0, start(3, 0)));
+    kernel = show(rt, kernel.declare_task(5));
+    kernel = show(rt, kernel.declare_interrupt());
+    kernel = show(rt, kernel.activate(0, 0, start(0, 0)));
+    kernel = show(rt, kernel.activate(0, 0, start(3, 0)));
     let mut k = kernel.state;
     let mut t = k.tasks[0];
     let mut s = t.schedule;
@@ -211,8 +211,8 @@ fn stored_ends() {
         schedule: armed,
         ..t
     };
-    kernel = show(Kernel { state: k }.tick());
-    kernel = show(kernel.activate(0, 0, start(2, 1)));
+    kernel = show(rt, Kernel { state: k }.tick());
+    kernel = show(rt, kernel.activate(0, 0, start(2, 1)));
     k = kernel.state;
     t = k.tasks[0];
     s = t.schedule;
@@ -222,17 +222,17 @@ fn stored_ends() {
         schedule: ended,
         ..t
     };
-    kernel = show(Kernel { state: k }.tick());
-    show_running(kernel);
+    kernel = show(rt, Kernel { state: k }.tick());
+    show_running(rt, kernel);
 }
 
 // ALL 2 DURING 4 by the clock, and AFTER 3 ALL 2 UNTIL 10 behind a trigger of interrupt 1 at 4. Sleeps go from due to due.
-fn periods() {
+fn periods<P: Print>(rt: &P) {
     let mut kernel = Kernel::fresh();
-    kernel = show(kernel.declare_task(5));
-    kernel = show(kernel.declare_task(6));
-    kernel = show(kernel.declare_interrupt());
-    kernel = show(kernel.declare_interrupt());
+    kernel = show(rt, kernel.declare_task(5));
+    kernel = show(rt, kernel.declare_task(6));
+    kernel = show(rt, kernel.declare_interrupt());
+    kernel = show(rt, kernel.declare_interrupt());
     let all = StartCondition {
         kind: 5,
         interrupt: 0,
@@ -241,10 +241,10 @@ fn periods() {
         period: 2,
         endtime: 4,
     };
-    kernel = show(kernel.activate(0, 0, all));
-    kernel = show(kernel.sleep());
-    kernel = show(kernel.sleep());
-    kernel = show(kernel.sleep());
+    kernel = show(rt, kernel.activate(0, 0, all));
+    kernel = show(rt, kernel.sleep());
+    kernel = show(rt, kernel.sleep());
+    kernel = show(rt, kernel.sleep());
     let when = StartCondition {
         kind: 4,
         interrupt: 1,
@@ -253,22 +253,22 @@ fn periods() {
         period: 2,
         endtime: 10,
     };
-    kernel = show(kernel.activate(1, 9, when));
-    kernel = show(kernel.enable(1));
-    kernel = show(kernel.trigger(1));
-    kernel = show(kernel.sleep());
-    kernel = show(kernel.sleep());
-    show(kernel.sleep());
+    kernel = show(rt, kernel.activate(1, 9, when));
+    kernel = show(rt, kernel.enable(1));
+    kernel = show(rt, kernel.trigger(1));
+    kernel = show(rt, kernel.sleep());
+    kernel = show(rt, kernel.sleep());
+    show(rt, kernel.sleep());
 }
 
 // A bolt with 65,534 readers takes one more, and the next waits until one leaves.
-fn many_readers() {
+fn many_readers<P: Print>(rt: &P) {
     let mut kernel = Kernel::fresh();
-    kernel = show(kernel.declare_task(5));
-    kernel = show(kernel.declare_task(6));
-    kernel = show(kernel.declare_bolt());
-    kernel = show(kernel.activate(0, 0, start(0, 0)));
-    kernel = show(kernel.activate(1, 0, start(0, 0)));
+    kernel = show(rt, kernel.declare_task(5));
+    kernel = show(rt, kernel.declare_task(6));
+    kernel = show(rt, kernel.declare_bolt());
+    kernel = show(rt, kernel.activate(0, 0, start(0, 0)));
+    kernel = show(rt, kernel.activate(1, 0, start(0, 0)));
     let mut k = kernel.state;
     let mut locks = k.locks;
     let b = Bolt {
@@ -277,36 +277,36 @@ fn many_readers() {
     };
     locks.bolts[0] = b;
     k.locks = locks;
-    kernel = show(Kernel { state: k }.enter(1, [0; 4]));
-    kernel = show(kernel.enter(1, [0; 4]));
-    show(kernel.leave(1, [0; 4]));
+    kernel = show(rt, Kernel { state: k }.enter(1, [0; 4]));
+    kernel = show(rt, kernel.enter(1, [0; 4]));
+    show(rt, kernel.leave(1, [0; 4]));
 }
 
 // A task beyond the count that lives, runnable and more urgent, isn't looked at.
-fn beyond_counts() {
+fn beyond_counts<P: Print>(rt: &P) {
     let mut kernel = Kernel::fresh();
-    kernel = show(kernel.declare_task(5));
-    kernel = show(kernel.activate(0, 0, start(0, 0)));
+    kernel = show(rt, kernel.declare_task(5));
+    kernel = show(rt, kernel.activate(0, 0, start(0, 0)));
     let mut k = kernel.state;
     let t = k.tasks[0];
     k.tasks[1] = Task { current: 1, ..t };
-    kernel = show(Kernel { state: k }.prevent(0));
-    show(kernel.end());
+    kernel = show(rt, Kernel { state: k }.prevent(0));
+    show(rt, kernel.end());
 }
 
-fn main() {
-    locks();
-    holds();
-    starts();
-    last_instant();
-    beyond_limits();
-    odd_schedule();
-    stored_ends();
-    continuations();
-    other_places();
-    many_readers();
-    last_due();
-    other_lengths();
-    periods();
-    beyond_counts();
+fn main(rt: HostRuntime) {
+    locks(&rt);
+    holds(&rt);
+    starts(&rt);
+    last_instant(&rt);
+    beyond_limits(&rt);
+    odd_schedule(&rt);
+    stored_ends(&rt);
+    continuations(&rt);
+    other_places(&rt);
+    many_readers(&rt);
+    last_due(&rt);
+    other_lengths(&rt);
+    periods(&rt);
+    beyond_counts(&rt);
 }

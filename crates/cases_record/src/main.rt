@@ -6,6 +6,7 @@
 ghost use Rattle.std.specs.Prelude.{◌≡◌, ◌≤◌};
 ghost use Rattle.record.specs.Reading.{number_of};
 
+use feed::read_full;
 use layout::Call;
 use lists::zeros;
 use record::{Read, Reading, reader, writer};
@@ -28,66 +29,64 @@ fn wide(b: u8) -> usize
 }
 
 // What the writer's bytes are, beside the record's.
-fn print_bytes(bytes: &[u8], s: &[u8]) {
+fn print_bytes<P: Print>(rt: &P, bytes: &[u8], s: &[u8]) {
     if zeros(bytes) {
-        io::write_all(1, b"zeros");
+        let _ = rt.write_all(b"zeros");
         return;
     }
     let mut i = 0;
     while i < bytes.len() {
         if s.len() <= i {
-            io::write_all(1, b"others");
+            let _ = rt.write_all(b"others");
             return;
         }
         if bytes[i] != s[i] {
-            io::write_all(1, b"others");
+            let _ = rt.write_all(b"others");
             return;
         }
         i += 1;
     }
-    io::write_all(1, b"same");
+    let _ = rt.write_all(b"same");
 }
 
 // The writer's number and bytes for the fields of a reading, or -.
-fn print_written(r: Reading, s: &[u8]) {
+fn print_written<P: Print>(rt: &P, r: Reading, s: &[u8]) {
     let answer = r.answer;
     let list = r.list;
     let Read::Accepted(head) = answer else {
-        io::write_all(1, b"- -");
+        let _ = rt.write_all(b"- -");
         return;
     };
     let w = writer::write(Call { head, list });
-    io::print_decimal(1, w.number as u64);
-    io::write_all(1, b" ");
-    print_bytes(&w.bytes, s);
+    let number = w.number;
+    let _ = print!(rt; "{number} ");
+    print_bytes(rt, &w.bytes, s);
 }
 
 // Of a record that the reader refuses, the writer gets the fields as they stand there.
-fn print_line(s: &[u8]) {
+fn print_line<P: Print>(rt: &P, s: &[u8]) {
     let r = reader::read(s);
     let answer = r.answer;
     let number = number_of(answer);
-    io::print_decimal(1, number as u64);
-    io::write_all(1, b" ");
+    let _ = print!(rt; "{number} ");
     if number == 0 {
-        print_written(r, s);
+        print_written(rt, r, s);
     } else {
-        print_written(reader::open(s), s);
+        print_written(rt, reader::open(s), s);
     }
-    io::write_all(1, b"\n");
+    let _ = rt.write_all(b"\n");
 }
 
-fn main() {
+fn main(rt: HostRuntime) {
+    let mut input = rt.stdin();
     let mut buf = [0u8; 256];
     let mut one = [0u8; 1];
-    let mut turns = u64::MAX;
-    while turns > 0 {
-        turns -= 1;
-        if io::read_full(0, &mut one) == 0 {
+    for _ in 0..u64::MAX {
+        if read_full(&mut input, &mut one) == 0 {
             return;
         }
         let len = wide(one[0]);
-        let n = io::read_full(0, &mut buf[..len]);
-        print_line(&buf[..n]);
+        let n = read_full(&mut input, &mut buf[..len]);
+        print_line(&rt, &buf[..n]);
     }
 }

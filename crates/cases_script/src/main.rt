@@ -4,6 +4,7 @@
 
 ghost use Rattle.std.specs.Prelude.{◌≡◌, ◌≤◌};
 
+use feed::read_full;
 use kernel::Kernel;
 use script::Script;
 use script::run::{LONGEST_LINE, run};
@@ -12,21 +13,21 @@ use script::run::{LONGEST_LINE, run};
 const ROOM: usize = 203;
 
 // A line more where a run says that it is full although there is room for a line.
-fn print_left(full: bool, written: usize) {
+fn print_left<P: Print>(rt: &P, full: bool, written: usize) {
     if full & (written <= ROOM - LONGEST_LINE) {
-        io::write_all(1, b"room is left\n");
+        let _ = rt.write_all(b"room is left\n");
     }
 }
 
 // A script's lines, a buffer full at a time.
-fn print_script(s: &[u8]) {
+fn print_script<P: Print>(rt: &P, s: &[u8]) {
     let mut out = [0u8; ROOM];
     let mut script = Script::begin(Kernel::fresh());
     let mut at = 0;
     while at < s.len() {
         let ran = run(script, &s[at..], &mut out);
-        io::write_all(1, &out[..ran.written]);
-        print_left(ran.full, ran.written);
+        let _ = rt.write_all(&out[..ran.written]);
+        print_left(rt, ran.full, ran.written);
         if ran.read == 0 {
             return;
         }
@@ -43,31 +44,30 @@ fn wide(b: u8) -> usize
     b as usize
 }
 
-fn main() {
-    let mut buf = io::large_buffer();
+fn main(rt: HostRuntime) {
+    let mut input = rt.stdin();
+    let mut buf = [0u8; 65536];
     let mut one = [0u8; 1];
     let mut fill = 0;
-    let mut turns = u64::MAX;
-    while turns > 0 {
-        turns -= 1;
-        let got = io::read_full(0, &mut one);
+    for _ in 0..u64::MAX {
+        let got = read_full(&mut input, &mut one);
         let len = wide(one[0]);
         if (got == 0) | (len == 0) {
-            print_script(&buf[..fill]);
+            print_script(&rt, &buf[..fill]);
             fill = 0;
         }
         if got == 0 {
             return;
         }
         if len == 0 {
-            io::write_all(1, b"\n");
+            let _ = rt.write_all(b"\n");
             continue;
         }
         if buf.len() - fill < len {
             return;
         }
         let to = fill + len;
-        io::read_full(0, &mut buf[fill..to]);
+        read_full(&mut input, &mut buf[fill..to]);
         fill = to;
     }
 }

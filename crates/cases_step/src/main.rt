@@ -4,14 +4,15 @@
 
 ghost use Rattle.std.specs.Prelude.{◌≡◌, ◌≤◌};
 
+use feed::read_full;
 use kernel::Kernel;
 use lines::line_at;
 use machine::Answer;
 
-fn print_line(a: Answer) {
+fn print_line<P: Print>(rt: &P, a: Answer) {
     let mut out = [0u8; 64];
     let n = line_at(a, &mut out, 0);
-    io::write_all(1, &out[..n]);
+    let _ = rt.write_all(&out[..n]);
 }
 
 // A byte as a length.
@@ -22,28 +23,27 @@ fn wide(b: u8) -> usize
     b as usize
 }
 
-fn main() {
+fn main(rt: HostRuntime) {
+    let mut input = rt.stdin();
     let mut buf = [0u8; 256];
     let mut one = [0u8; 1];
     let mut kernel = Kernel::fresh();
-    let mut turns = u64::MAX;
-    while turns > 0 {
-        turns -= 1;
-        if io::read_full(0, &mut one) == 0 {
+    for _ in 0..u64::MAX {
+        if read_full(&mut input, &mut one) == 0 {
             return;
         }
         let len = wide(one[0]);
         if len == 0 {
             kernel = Kernel::fresh();
-            io::write_all(1, b"\n");
+            let _ = rt.write_all(b"\n");
             continue;
         }
-        let n = io::read_full(0, &mut buf[..len]);
+        let n = read_full(&mut input, &mut buf[..len]);
         let reply = kernel.step(&buf[..n]);
         let answer = reply.answer;
         kernel = reply.kernel;
         if (answer.number != 0) | kernel.state.begun {
-            print_line(answer);
+            print_line(&rt, answer);
         }
     }
 }

@@ -5,14 +5,15 @@
 
 ghost use Rattle.std.specs.Prelude.{◌≡◌, ◌≤◌};
 
+use feed::read_full;
 use kernel::Kernel;
 use machine::State;
 use wait_lines::text_at;
 
-fn print_waits(k: State) {
+fn print_waits<P: Print>(rt: &P, k: State) {
     let mut out = [0u8; 1024];
     let n = text_at(k, &mut out, 0);
-    io::write_all(1, &out[..n]);
+    let _ = rt.write_all(&out[..n]);
 }
 
 // A byte as a length.
@@ -24,27 +25,26 @@ fn wide(b: u8) -> usize
 }
 
 // A fresh kernel has no lines, so nothing is printed before the first script.
-fn main() {
+fn main(rt: HostRuntime) {
+    let mut input = rt.stdin();
     let mut buf = [0u8; 256];
     let mut one = [0u8; 1];
     let mut kernel = Kernel::fresh();
-    let mut turns = u64::MAX;
-    while turns > 0 {
-        turns -= 1;
-        let got = io::read_full(0, &mut one);
+    for _ in 0..u64::MAX {
+        let got = read_full(&mut input, &mut one);
         let len = wide(one[0]);
         if (got == 0) | (len == 0) {
-            print_waits(kernel.state);
+            print_waits(&rt, kernel.state);
             kernel = Kernel::fresh();
         }
         if got == 0 {
             return;
         }
         if len == 0 {
-            io::write_all(1, b"\n");
+            let _ = rt.write_all(b"\n");
             continue;
         }
-        let n = io::read_full(0, &mut buf[..len]);
+        let n = read_full(&mut input, &mut buf[..len]);
         let reply = kernel.step(&buf[..n]);
         kernel = reply.kernel;
     }

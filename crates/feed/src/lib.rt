@@ -1,7 +1,7 @@
 // What the programs that read a script share: reading on, and keeping the rest.
 #![tactic(auto)]
 
-ghost use Rattle.std.specs.Prelude.{◌≡◌, false, ◌-◌, ◌≤◌, length, drop};
+ghost use Rattle.std.specs.Prelude.{◌≡◌, false, ◌-◌, ◌≤◌, length, drop, is_none};
 ghost use Rattle.std.proofs.Math.Seq.{paste};
 ghost use Rattle.feed.specs.Feeding.{whole_of, went_well, brought, NothingRead, ReadOn};
 
@@ -56,6 +56,7 @@ pub fn read_on<R: Read>(from: &mut R, input: &mut [u8], held: usize) -> Fed
     requires { held ≤ length input.old }
     ensures read_on { ReadOn held input.old input.new result }
     ensures failed { result.ok ≡ false → NothingRead held result }
+    ensures error { result.ok ≡ is_none result.error }
 {
     let got = from.read(&mut input[held..]);
     let n = count_of(got);

@@ -10,9 +10,9 @@ ghost use Rattle.script.specs.Script.{going_on};
 
 use feed::{keep, read_on};
 use kernel::Kernel;
-use libc::STDOUT_FILENO;
 use script::Script;
 use script::run::run_from;
+use std::io;
 
 // The script after some records, and whether their lines could be written.
 #[derive(Clone, Copy)]
@@ -21,8 +21,13 @@ struct Progress {
     ok: bool,
 }
 
+// Tells on standard error what failed, and why.
+fn tell<P: Eprint>(rt: &P, what: &str, error: io::Error) {
+    let _ = eprintln!(rt; "rackrun: {what}: {error}");
+}
+
 // Carries the records of bytes out and writes their lines, a buffer full at a time.
-fn carry(script: Script, bytes: &[u8], out: &mut [u8]) -> Progress
+fn carry<P: Print + Eprint>(rt: &P, script: Script, bytes: &[u8], out: &mut [u8]) -> Progress
     requires { longest_line ≤ length out.old }
     ensures { result.ok ≡ true → result.script ≡ going_on (final day_length script.kernel.state (records bytes.now)) }
 {
@@ -32,8 +37,8 @@ fn carry(script: Script, bytes: &[u8], out: &mut [u8]) -> Progress
         let ran = run_from(now, bytes, at, out);
         now = ran.script;
         at = at + ran.read;
-        if !io::write_all(STDOUT_FILENO, &out[..ran.written]) {
-            os::fail(b"rackrun: standard output");
+        if let Err(error) = rt.write_all(&out[..ran.written]) {
+            tell(rt, "standard output", error);
             return Progress {
                 script: now,
                 ok: false,
@@ -47,21 +52,20 @@ fn carry(script: Script, bytes: &[u8], out: &mut [u8]) -> Progress
 }
 
 // Each turn carries out the records that a read has brought, and keeps the rest.
-fn main() {
-    let mut input = io::large_buffer();
-    let mut output = io::large_buffer();
+fn main(rt: HostRuntime) {
+    let mut stdin = rt.stdin();
+    let mut input = [0u8; 65536];
+    let mut output = [0u8; 65536];
     let mut script = Script::begin(Kernel::fresh());
     let mut held = 0;
-    let mut turns = u64::MAX;
-    while turns > 0 {
-        turns -= 1;
-        let fed = read_on(&mut input, held);
-        if !fed.ok {
-            os::fail(b"rackrun: standard input");
+    for _ in 0..u64::MAX {
+        let fed = read_on(&mut stdin, &mut input, held);
+        if let Some(error) = fed.error {
+            tell(&rt, "standard input", error);
             return;
         }
         let whole = fed.whole;
-        let p = carry(script, &input[..whole], &mut output);
+        let p = carry(&rt, script, &input[..whole], &mut output);
         if !p.ok {
             return;
         }

@@ -11,10 +11,15 @@ ghost use Rattle.script.specs.Script.{going_on};
 
 use feed::{keep, read_on};
 use kernel::Kernel;
-use libc::STDOUT_FILENO;
 use script::Script;
 use script::run::run_from;
+use std::io;
 use wait_lines::text_at;
+
+// Tells on standard error what failed, and why.
+fn tell<P: Eprint>(rt: &P, what: &str, error: io::Error) {
+    let _ = eprintln!(rt; "rackwait: {what}: {error}");
+}
 
 // Carries the records of bytes out. The lines of their answers are left in the buffer and not printed.
 fn carry(script: Script, bytes: &[u8], out: &mut [u8]) -> Script
@@ -32,25 +37,24 @@ fn carry(script: Script, bytes: &[u8], out: &mut [u8]) -> Script
 }
 
 // Each turn carries out the records that a read has brought, and keeps the rest; the last one prints.
-fn main() {
-    let mut input = io::large_buffer();
-    let mut output = io::large_buffer();
+fn main(rt: HostRuntime) {
+    let mut stdin = rt.stdin();
+    let mut input = [0u8; 65536];
+    let mut output = [0u8; 65536];
     let mut script = Script::begin(Kernel::fresh());
     let mut held = 0;
-    let mut turns = u64::MAX;
-    while turns > 0 {
-        turns -= 1;
-        let fed = read_on(&mut input, held);
-        if !fed.ok {
-            os::fail(b"rackwait: standard input");
+    for _ in 0..u64::MAX {
+        let fed = read_on(&mut stdin, &mut input, held);
+        if let Some(error) = fed.error {
+            tell(&rt, "standard input", error);
             return;
         }
         let whole = fed.whole;
         script = carry(script, &input[..whole], &mut output);
         if !fed.more {
             let n = text_at(script.kernel.state, &mut output, 0);
-            if !io::write_all(STDOUT_FILENO, &output[..n]) {
-                os::fail(b"rackwait: standard output");
+            if let Err(error) = rt.write_all(&output[..n]) {
+                tell(&rt, "standard output", error);
             }
             return;
         }
