@@ -1,0 +1,10 @@
+-- Each run gets on, and the last one carries out the last record.
+use native.Mathlib.Omega.{arith}
+use mathlib.Core.Path.{◌∙◌}
+use Rattle.script.proofs.TurnLaws.{at_end}
+use Rattle.rackwait.proofs.carry.Goals as goal
+
+pub loop-at-preserved : goal.loop-at-preserved
+loop-at-preserved c =
+    let u = c.run_from-ran in
+    (u.auto.out ∙ c.loop-at.invariant.0, u.ensures.within, u.ensures.last ∙ c.loop-at.invariant.2)
