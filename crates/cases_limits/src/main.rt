@@ -1,4 +1,5 @@
-// Kernels with values written into them, at the limits of refusal 1 and one beyond: prints the lines of the methods on them.
+// Kernels with values written into them, at the limits of refusal 1 and one beyond: prints the lines of the methods on them, and
+// those of further starts, lengths and counts.
 // stdout has the lines that document 01 gives.
 #![tactic(auto)]
 
@@ -8,8 +9,8 @@ ghost use Rattle.machine.specs.State.{task_at, with_state};
 
 use calendar::{Duration, End, Instant, LAST_INSTANT, LONGEST_DURATION, MOST_INSTANT, Moment};
 use cases_showing::{show, start};
-use kernel::Kernel;
-use lock::Wait;
+use kernel::{Kernel, StartCondition};
+use lock::{Bolt, Wait};
 use machine::{Counts, OnFile, Running};
 use schedule::{Alarm, Plan, Schedule};
 use task::{Hold, Kept, Task};
@@ -39,34 +40,6 @@ fn continuing(kernel: Kernel, continuation: Alarm) -> Kernel
     let t = k.tasks[0];
     k.tasks[0] = Task { continuation, ..t };
     Kernel { state: k }
-}
-
-// A continuation on an interrupt that isn't declared, one with a delay that is too long, and one that is due beyond the
-// last stored instant. A priority 0 passes the test, and what pends at the present instant never comes.
-fn odd_continuations<P: Print>(rt: &P) {
-    let mut kernel = Kernel::fresh();
-    kernel = show(rt, kernel.declare_task(5));
-    kernel = show(rt, kernel.declare_interrupt());
-    kernel = show(rt, kernel.activate(0, 0, start(0, 0)));
-    kernel = show(rt, kernel.suspend(0));
-    kernel = show(
-        rt,
-        continuing(kernel, alarm(Plan::Armed, 1, 0, 0)).enable(0),
-    );
-    kernel = show(
-        rt,
-        continuing(kernel, alarm(Plan::Armed, 0, TOO_LONG, 0)).enable(0),
-    );
-    kernel = show(
-        rt,
-        continuing(kernel, alarm(Plan::Clock, 0, 0, TOO_FAR)).enable(0),
-    );
-    kernel = show(
-        rt,
-        continuing(kernel, alarm(Plan::Triggered, 0, 0, 0)).enable(0),
-    );
-    kernel = show(rt, kernel.tick());
-    show(rt, kernel.trigger(0));
 }
 
 // Prints the line of a tick of the kernel with other counts.
@@ -352,8 +325,102 @@ fn pending_now<P: Print>(rt: &P) {
     show(rt, kernel.sleep());
 }
 
+// A bolt with 65,534 readers takes one more, and the next waits until one leaves.
+fn many_readers<P: Print>(rt: &P) {
+    let mut kernel = Kernel::fresh();
+    kernel = show(rt, kernel.declare_task(5));
+    kernel = show(rt, kernel.declare_task(6));
+    kernel = show(rt, kernel.declare_bolt());
+    kernel = show(rt, kernel.activate(0, 0, start(0, 0)));
+    kernel = show(rt, kernel.activate(1, 0, start(0, 0)));
+    let mut k = kernel.state;
+    let mut locks = k.locks;
+    let b = Bolt {
+        writer: false,
+        readers: 65_534,
+    };
+    locks.bolts[0] = b;
+    k.locks = locks;
+    kernel = show(rt, Kernel { state: k }.enter(1, [0; 4]));
+    kernel = show(rt, kernel.enter(1, [0; 4]));
+    show(rt, kernel.leave(1, [0; 4]));
+}
+
+// A start that falls on the last instant, by a tick.
+fn last_due<P: Print>(rt: &P) {
+    let mut kernel = Kernel::fresh();
+    kernel = show(rt, kernel.declare_task(5));
+    let near = Instant(LAST_INSTANT - 1);
+    let mut k = kernel.state;
+    k.now = near;
+    kernel = show(rt, Kernel { state: k }.activate(0, 0, start(2, 1)));
+    kernel = show(rt, kernel.tick());
+    show(rt, kernel.tick());
+}
+
+// A tick's bytes with one too few and one too many are no record.
+fn other_lengths<P: Print>(rt: &P) {
+    let mut kernel = Kernel::fresh();
+    kernel = show(rt, kernel.declare_task(5));
+    let mut short = [0; 23];
+    short[0] = b'T';
+    short[1] = b'I';
+    let mut long = [0; 25];
+    long[0] = b'T';
+    long[1] = b'I';
+    kernel = show(rt, kernel.step(&short));
+    kernel = show(rt, kernel.step(&long));
+    show(rt, kernel.tick());
+}
+
+// ALL 2 DURING 4 by the clock, and AFTER 3 ALL 2 UNTIL 10 behind a trigger of interrupt 1 at 4. Sleeps go from due to due.
+fn periods<P: Print>(rt: &P) {
+    let mut kernel = Kernel::fresh();
+    kernel = show(rt, kernel.declare_task(5));
+    kernel = show(rt, kernel.declare_task(6));
+    kernel = show(rt, kernel.declare_interrupt());
+    kernel = show(rt, kernel.declare_interrupt());
+    let all = StartCondition {
+        kind: 5,
+        interrupt: 0,
+        endkind: 2,
+        first: 0,
+        period: 2,
+        endtime: 4,
+    };
+    kernel = show(rt, kernel.activate(0, 0, all));
+    kernel = show(rt, kernel.sleep());
+    kernel = show(rt, kernel.sleep());
+    kernel = show(rt, kernel.sleep());
+    let when = StartCondition {
+        kind: 4,
+        interrupt: 1,
+        endkind: 1,
+        first: 3,
+        period: 2,
+        endtime: 10,
+    };
+    kernel = show(rt, kernel.activate(1, 9, when));
+    kernel = show(rt, kernel.enable(1));
+    kernel = show(rt, kernel.trigger(1));
+    kernel = show(rt, kernel.sleep());
+    kernel = show(rt, kernel.sleep());
+    show(rt, kernel.sleep());
+}
+
+// A task beyond the count that lives, runnable and more urgent, isn't looked at.
+fn beyond_counts<P: Print>(rt: &P) {
+    let mut kernel = Kernel::fresh();
+    kernel = show(rt, kernel.declare_task(5));
+    kernel = show(rt, kernel.activate(0, 0, start(0, 0)));
+    let mut k = kernel.state;
+    let t = k.tasks[0];
+    k.tasks[1] = Task { current: 1, ..t };
+    kernel = show(rt, Kernel { state: k }.prevent(0));
+    show(rt, kernel.end());
+}
+
 fn main(rt: HostRuntime) {
-    odd_continuations(&rt);
     counts_beyond(&rt);
     tasks_beyond(&rt);
     far_delay(&rt);
@@ -363,4 +430,9 @@ fn main(rt: HostRuntime) {
     alarms_beyond(&rt);
     not_looked_at(&rt);
     pending_now(&rt);
+    many_readers(&rt);
+    last_due(&rt);
+    other_lengths(&rt);
+    periods(&rt);
+    beyond_counts(&rt);
 }

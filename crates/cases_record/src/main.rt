@@ -1,6 +1,5 @@
 // Reads records from standard input, each behind a byte with its length. Prints a line for each: the reader's
-// number, the number that the writer gives for the fields that the reader hands back, and whether the writer's bytes are
-// the same as the record's, zeros or others; or - for both where there are no fields.
+// number, and the number that the writer gives for the same fields, or - where the record has no fields.
 #![tactic(auto)]
 
 ghost use Rattle.std.specs.Prelude.{◌≡◌, ◌≤◌};
@@ -8,8 +7,7 @@ ghost use Rattle.record.specs.Reading.{number_of};
 
 use feed::read_full;
 use layout::Call;
-use lists::zeros;
-use record::{Read, Reading, reader, writer};
+use record::{Read, reader, writer};
 
 fn number_of(answer: Read) -> u8
     ensures { result ≡ number_of answer }
@@ -28,52 +26,26 @@ fn wide(b: u8) -> usize
     b as usize
 }
 
-// What the writer's bytes are, beside the record's.
-fn print_bytes<P: Print>(rt: &P, bytes: &[u8], s: &[u8]) {
-    if zeros(bytes) {
-        let _ = rt.write_all(b"zeros");
-        return;
-    }
-    let mut i = 0;
-    while i < bytes.len() {
-        if s.len() <= i {
-            let _ = rt.write_all(b"others");
-            return;
-        }
-        if bytes[i] != s[i] {
-            let _ = rt.write_all(b"others");
-            return;
-        }
-        i += 1;
-    }
-    let _ = rt.write_all(b"same");
-}
-
-// The writer's number and bytes for the fields of a reading, or -.
-fn print_written<P: Print>(rt: &P, r: Reading, s: &[u8]) {
+// The writer's number for the fields of a record, or -.
+fn print_written<P: Print>(rt: &P, s: &[u8]) {
+    let r = reader::open(s);
     let answer = r.answer;
     let list = r.list;
     let Read::Accepted(head) = answer else {
-        let _ = rt.write_all(b"- -");
+        let _ = rt.write_all(b"-");
         return;
     };
     let w = writer::write(Call { head, list });
     let number = w.number;
-    let _ = print!(rt; "{number} ");
-    print_bytes(rt, &w.bytes, s);
+    let _ = print!(rt; "{number}");
 }
 
-// Of a record that the reader refuses, the writer gets the fields as they stand there.
 fn print_line<P: Print>(rt: &P, s: &[u8]) {
     let r = reader::read(s);
     let answer = r.answer;
     let number = number_of(answer);
     let _ = print!(rt; "{number} ");
-    if number == 0 {
-        print_written(rt, r, s);
-    } else {
-        print_written(rt, reader::open(s), s);
-    }
+    print_written(rt, s);
     let _ = rt.write_all(b"\n");
 }
 

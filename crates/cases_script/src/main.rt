@@ -12,22 +12,32 @@ use script::run::{LONGEST_LINE, run};
 // The room for lines: ten of the shortest, 14 bytes each, leave just enough for one of any length.
 const ROOM: usize = 203;
 
-// A line more where a run says that it is full although there is room for a line.
-fn print_left<P: Print>(rt: &P, full: bool, written: usize) {
-    if full & (written <= ROOM - LONGEST_LINE) {
-        let _ = rt.write_all(b"room is left\n");
-    }
-}
-
 // A script's lines, a buffer full at a time.
 fn print_script<P: Print>(rt: &P, s: &[u8]) {
-    let mut out = [0u8; ROOM];
+    let mut out = [0u8; 200];
     let mut script = Script::begin(Kernel::fresh());
     let mut at = 0;
     while at < s.len() {
         let ran = run(script, &s[at..], &mut out);
         let _ = rt.write_all(&out[..ran.written]);
-        print_left(rt, ran.full, ran.written);
+        if ran.read == 0 {
+            return;
+        }
+        script = ran.script;
+        at = at + ran.read;
+    }
+}
+
+// The same without its lines: a line where a run says that it is full although there is room for one.
+fn print_left<P: Print>(rt: &P, s: &[u8]) {
+    let mut out = [0u8; ROOM];
+    let mut script = Script::begin(Kernel::fresh());
+    let mut at = 0;
+    while at < s.len() {
+        let ran = run(script, &s[at..], &mut out);
+        if ran.full & (ran.written <= ROOM - LONGEST_LINE) {
+            let _ = rt.write_all(b"room is left\n");
+        }
         if ran.read == 0 {
             return;
         }
@@ -54,6 +64,7 @@ fn main(rt: HostRuntime) {
         let len = wide(one[0]);
         if (got == 0) | (len == 0) {
             print_script(&rt, &buf[..fill]);
+            print_left(&rt, &buf[..fill]);
             fill = 0;
         }
         if got == 0 {

@@ -1,6 +1,6 @@
 -- The scan stays within the bytes.
 use Rattle.std.proofs.Common.{length, ◌-◌, ◌≤◌}
-use Rattle.cases_record.proofs.print_bytes.Given as goal
+use Rattle.cases_written.proofs.print_bytes.Given as goal
 
 abbrev pub invariant-loop-i : goal.invariant-loop-i
 invariant-loop-i g l = l.i ≤ length l.bytes
