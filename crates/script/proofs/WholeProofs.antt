@@ -5,7 +5,6 @@ use Prim.Native.Nat.{ℕ}
 use native.Mathlib.Omega.{arith}
 use lib.ListN.{length, drop, length-drop}
 use Rattle.calendar.specs.Limits.{day_length}
-use Rattle.layout.specs.Letters.{ascii}
 use Rattle.machine.specs.State.{nothing}
 use Rattle.machine.specs.Log.{final, log}
 use Rattle.machine.proofs.Computing.{computed}
@@ -15,7 +14,7 @@ use Rattle.script.specs.Records.{cut, records}
 use Rattle.script.specs.Printed.{silent, printed, lines}
 use Rattle.script.specs.Script.{going_on}
 use Rattle.script.specs.Promises.{RunsWhole}
-use Rattle.script.specs.Marked.{m1_script, m1_text, M1Prints}
+use Rattle.script.specs.Marked.{ascii, m1_script, m1_text, M1Prints}
 use Rattle.script.proofs.RecordLaws.{none_left}
 use Rattle.script.proofs.PromiseProofs.{scripts_carried}
 

@@ -1,8 +1,9 @@
 -- M1 of document 01, "The script program": the bytes of its nine records, and the text of its six lines.
 -- Proved in proofs/WholeProofs.antt.
-use Rattle.std.specs.Prelude.{List, ◌∷◌, ◌++◌, ℕ, ◌*◌, ◌≤◌, length}
+use Rattle.std.specs.Prelude.{List, [], ◌∷◌, ◌++◌, ℕ, ◌*◌, ◌≤◌, length, replicate}
+use Prim.Native.Char.{code}
+use Prim.Native.String.{String, [] as none, ◌∷◌ as ◌and◌}
 use Rattle.calendar.specs.Limits.{day_length}
-use Rattle.layout.specs.Letters.{ascii, zeros}
 use Rattle.machine.specs.State.{nothing}
 use Rattle.machine.specs.Log.{final}
 use Rattle.lines.specs.Lines.{longest_line}
@@ -10,6 +11,14 @@ use Rattle.script.specs.Records.{records}
 use Rattle.script.specs.Script.{going_on, Runs}
 use Rattle.script.specs.Promises.{Prints}
 use Rattle.script.specs.declared.run.Ran.{Ran}
+
+-- The bytes of a text.
+unfoldable pub ascii : String → List ℕ
+ascii none = []
+ascii (c and s) = code c ∷ ascii s
+
+abbrev pub zeros : ℕ → List ℕ
+zeros n = replicate n 0
 
 -- Two tasks of priorities 5 and 3, a semaphore with preset 1, and six calls.
 abbrev pub m1_script : List ℕ
