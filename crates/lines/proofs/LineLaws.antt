@@ -12,7 +12,7 @@ use Rattle.machine.specs.declared.Answer.{Answer}
 use Rattle.machine.specs.declared.Running.{Running}
 use Rattle.machine.specs.declared.Running.TheVariants.{Idle, Runs}
 use Rattle.facts.proofs.Bools.{both}
-use Rattle.lines.specs.Decimals.{decimal, value, is_digit, all_digits}
+use Rattle.lines.specs.Decimals.{spelt, decimal, value, is_digit, all_digits}
 use Rattle.lines.specs.Lines.{space, dash, line_feed, running_text, sets_text, line, RunningByte, NoLineLonger, LinesReadBack}
 use Rattle.lines.proofs.DecimalLaws.{printed_reads_back, digits_alone, byte_long, word_long}
 
@@ -83,6 +83,15 @@ past : (b : ℕ) → b < 48 → (m n : ℕ) (r s : List ℕ) → decimal m ++ b 
 past b low m n r s e =
     let h = parts b (decimal m) (decimal n) r s (decimal_without b m low) (decimal_without b n low) e in
     (same_number m n h.0, h.1)
+
+answer : ℕ → Running → ℕ → ℕ → ℕ → ℕ → ℕ → Answer
+answer n r d s e l g =
+    record { number = n; running = r; sets = record { due = d; started = s; ended = e; lost = l; granted = g } }
+
+-- 0 - 1 12 0 0 0
+example : line (answer 0 Idle 1 12 0 0 0) ≡ 48 ∷ 32 ∷ 45 ∷ 32 ∷ 49 ∷ 32 ∷ 49 ∷ 50 ∷ 32 ∷ 48 ∷ 32 ∷ 48 ∷ 32 ∷ 48 ∷ 10 ∷ []
+unfolding answer line sets_text running_text decimal spelt
+example = refl
 
 -- A line before a rest, from the left.
 opened : Answer → List ℕ → List ℕ
