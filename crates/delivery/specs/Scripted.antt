@@ -1,7 +1,7 @@
 -- The balance of a whole script: what `run` promises of the lines and of the last kernel. Proved in proofs/Scripted.antt.
 use Rattle.std.specs.Prelude.{◌≡◌, List, [], ◌++◌, ℕ, drop}
 use base.Fml.{Lft}
-use Rattle.std.specs.Borrow.{Bor}
+use Rattle.std.specs.Borrow.{Bor, MutBor}
 use Rattle.calendar.specs.Limits.{day_length}
 use Rattle.layout.specs.Fields.{Octets}
 use Rattle.machine.specs.State.{nothing}
@@ -26,8 +26,8 @@ Begun a p = begin.Learnt tt (a, tt) p (a, tt)
 pub record RunBy (p : Script) (bytes before after : List ℕ) (r : Ran) : Type 0 where
   pub lifetimes : Lft × Lft
   pub slice : Bor (List ℕ)
-  pub out : Bor (List ℕ)
-  pub end : Bor (List ℕ)
+  pub out : MutBor (List ℕ)
+  pub end : MutBor (List ℕ)
   pub refers : (slice.now ≡ bytes) × (out.now ≡ before) × (end.now ≡ after)
   pub learnt : run.Learnt (lifetimes.0, (lifetimes.1, tt)) (p, (slice, (out, tt))) r (p, (slice, (end, tt)))
 
