@@ -5,7 +5,8 @@ from dataclasses import dataclass
 
 from .tokens import tokens
 
-SIGNATURE = re.compile(r"(?:(abbrev|unfoldable) )?(?:pub )?([^\s:(){}]+) :(?: |$)")
+# pub raised : .., or with levels pub contra {ℓ} : ..
+SIGNATURE = re.compile(r"(?:(abbrev|unfoldable) )?(?:pub )?([^\s:(){}]+)(?: \{[^}]*\})* :(?: |$)")
 TYPE = re.compile(r"(?:pub )?(record|data) (\S+)")
 SKIPPED = re.compile(r"(?:pub )?(?:use|mod|infix[lr]?) ")
 MEMBER = re.compile(r" +(?:pub )?([^\s:(){}]+(?: [^\s:(){}]+)*) :(?: |$)")
@@ -17,16 +18,17 @@ class Declaration:
     kind: str      # abbrev, unfoldable, record, data, or law for a plain one
     line: int
     text: str      # with the head of the module that it stands in
+    own: int       # where in the text its own begins
 
     def tokens(self):
         return tokens(self.text)
 
     def type(self):
         """What stands behind the colon, up to the first clause; of a record or data what stands before where."""
-        first = self.text[self.text.index(self.name) + len(self.name):]
+        first = self.text[self.text.index(self.name, self.own) + len(self.name):]
         if self.kind in ("record", "data"):
             return " ".join(first.split(" where", 1)[0].split())
-        clause = re.search(rf"\n *(?:unfolding|{re.escape(self.name.split('_')[0])})\s", first)
+        clause = re.search(rf"\n *(?:unfolding|{re.escape(self.name)})\s", first)
         return " ".join(first[:clause.start() if clause else None].split(" :", 1)[1].split())
 
     def members(self):
@@ -55,18 +57,19 @@ def declarations(text):
         elif module and not module.endswith(" where"):
             module += " " + words
         elif indent == depth and (match := TYPE.match(words)):
-            current = Declaration(match.group(2), match.group(1), number, joined(module, line))
+            current = declared(match.group(2), match.group(1), number, module, line)
             found.append(current)
         elif indent == depth and (match := SIGNATURE.match(words)):
-            current = Declaration(match.group(2), match.group(1) or "law", number, joined(module, line))
+            current = declared(match.group(2), match.group(1) or "law", number, module, line)
             found.append(current)
         elif current:
             current.text += "\n" + line
     return found
 
 
-def joined(module, line):
-    return module + "\n" + line if module else line
+def declared(name, kind, number, module, line):
+    head = module + "\n" if module else ""
+    return Declaration(name, kind, number, head + line, len(head))
 
 
 def without_comments(text):

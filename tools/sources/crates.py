@@ -11,6 +11,9 @@ from . import antt, rattle
 
 DEFINITION, STATEMENT, CONTRACT, PROOF = "definition", "statement", "contract", "proof"
 
+# What is written of the proof of a function F stands in these files of proofs/F.
+OF_FUNCTION = ("Invariants.antt", "Answers.antt", "Proof.antt")
+
 
 class Failure(Exception):
     """What stops a tool, in words for its user."""
@@ -67,8 +70,8 @@ def listed(root):
 
 
 def entries(files):
-    """What the crates declare. A proof file of a function is one entry; what only lists modules is none."""
-    found = []
+    """What the crates declare. The files of a function's proof are one entry; what only lists modules is none."""
+    found, proofs = [], {}
     for path, text in sorted(files.items()):
         _, crate, *rest = path.split("/")
         if len(rest) < 2:
@@ -76,10 +79,12 @@ def entries(files):
         file = "/".join(rest)
         if rest[0] == "src":
             found += of_source(crate, rest[1:], file, text)
-        elif rest[-1] == "Proof.antt":
-            parts = antt.declarations(text)
-            tokens = [token for part in parts for token in part.tokens()]
-            found.append(Entry(crate, PROOF, "::".join(rest[1:-1]), file, tokens))
+        elif len(rest) > 2 and rest[-1] in OF_FUNCTION:
+            folder = "/".join(rest[:-1])
+            if (crate, folder) not in proofs:
+                proofs[crate, folder] = Entry(crate, PROOF, "::".join(rest[1:-1]), folder, [])
+                found.append(proofs[crate, folder])
+            proofs[crate, folder].tokens += [token for part in antt.declarations(text) for token in part.tokens()]
         elif rest[0] in ("specs", "proofs"):
             sort = DEFINITION if rest[0] == "specs" else PROOF
             found += [Entry(crate, sort, part.name, file, part.tokens()) for part in antt.declarations(text)]

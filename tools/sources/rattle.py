@@ -6,7 +6,8 @@ from dataclasses import dataclass, field
 from .tokens import tokens
 
 ITEM = re.compile(r"(?:pub(?:\([a-z]+\))? )?(?:ghost |extern \S+ |unsafe )*(fn|struct|enum|const|static|type) (\w+)")
-IMPL = re.compile(r"impl(?:<[^>]*>)? (\w+)")
+# impl Task, or impl Trait for Task
+IMPL = re.compile(r"impl(?:<[^>]*>)? (?:[^{]* for )?(\w+)")
 MEMBER = re.compile(r"(?:pub )?(\w+)")
 
 

@@ -12,8 +12,6 @@ def tokens(text):
     found = []
     for match in SPLIT.finditer(text):
         token = match.group()
-        if token == "." and text[match.start() - 1:match.start()].isspace():
-            token = " ."                           # a field in antt, and no path
         if token in CLOSING and found and found[-1] in (",", ";"):
             found.pop()
         found.append(token)
