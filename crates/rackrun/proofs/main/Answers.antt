@@ -1,6 +1,6 @@
 -- What is carried out lies in the buffer, and less than a record stays.
 use borrow.Author.Tests.{not-false}
-use mathlib.Core.Path.{◌≡◌, sym, ◌∙◌}
+use mathlib.Core.Path.{sym, ◌∙◌}
 use native.Mathlib.Omega.{arith}
 use lib.Seq.{length-take-le}
 use Rattle.feed.proofs.WholeLaws.{whole_within, whole_fits, rest_short}
