@@ -1,9 +1,10 @@
 -- Each task in its turn: one that isn't fit ends the look, and every other adds what comes to it and its urgency.
 use borrow.Author.Tests.{not-true, not-false}
 use mathlib.Core.Path.{◌≡◌, refl, sym, ap, ◌∙◌}
-use mathlib.Core.Bool.{false, not, ◌&&◌}
+use mathlib.Core.Bool.{true, false, not, ◌&&◌}
 use Prim.Native.Nat.{ℕ, ◌<◌, ◌≤◌}
 use Rattle.calendar.specs.Limits.{day_length}
+use Rattle.calendar.specs.Moments.{sooner}
 use Rattle.schedule.specs.Coming.{next_of}
 use Rattle.task.specs.Coming.{delay_end}
 use Rattle.machine.specs.State.{task_at}
@@ -13,12 +14,13 @@ use Rattle.machine.specs.declared.State.{State}
 use Rattle.kernel_granting.specs.Writers.{Known, TellsFor}
 use Rattle.kernel_values.proofs.Owned.{given_small}
 use Rattle.kernel_granting.proofs.WriterLaws.{known_none, ready_told, ready_known}
+use Rattle.kernel_next.specs.Next.{moment_of}
 use Rattle.kernel_test.specs.Looks.{unfit, surveyed}
 use Rattle.kernel_test.proofs.TaskFit.{plan_none, continuation_none, no_start, Starts, start_none, start_kept, eased, odd_priority, odd_schedule, odd_continuation, odd_kept, odd_busy, fit_eased, fit_busy}
 use Rattle.kernel_test.proofs.TestLaws.{fit_at, Upto, upto_fails, upto_all, out_of_range, counted, tasks_fit, all_fit}
 use Rattle.kernel_test.proofs.Surveying.{Part, sooner_more, sooner_same, led_eased, led_busy, looked_none, looked_next, looked_event, looked_places, looked_runs, unfit_is, fit_is}
 use Rattle.kernel_test.proofs.surveyed.Goals as goal
-use Rattle.kernel_test.proofs.surveyed.Goals.{then-is_planned+else-not-is_continuation_ok, else-is_planned, then-is_planned-2+else-not-is_schedule_ok, else-is_planned-2, then-is_back+else-not-is_kept_right, else-is_back, then-is_missing, else-is_missing}
+use Rattle.kernel_test.proofs.surveyed.Goals.{After-is_at_ease, then-is_planned+else-not-is_continuation_ok, else-is_planned, then-is_planned-2+else-not-is_schedule_ok, else-is_planned-2, then-is_back+else-not-is_kept_right, else-is_back, then-is_missing, else-is_missing}
 
 -- ---- a kernel in range
 
@@ -31,6 +33,65 @@ module _ (k : State) (all : (all_below k.counts.tasks (fit_at day_length k) && p
   -- All tasks were fit: what is left of the test is the places.
   fitting : k.counts.tasks ≤ i → places_ok k.counts.tasks k.places ≡ valid day_length k
   fitting end = ap (λ b. b && places_ok k.counts.tasks k.places) (upto_all p end) ∙ all
+
+-- ---- a task whose parts passed
+
+-- What both ways on from task i have: its plans and its start kept back pass, and after them this comes next.
+record PartsPass (k : State) (i before after : ℕ) : Type 0 where
+  schedule : schedule_ok day_length k.counts.interrupts (task_at k.tasks i).schedule ≡ true
+  continuation : continuation_ok k.counts.interrupts (task_at k.tasks i).continuation (task_at k.tasks i).given ≡ true
+  start : Starts (task_at k.tasks i).alive (task_at k.tasks i).kept
+  comes : moment_of after ≡ sooner k.now (next_of (task_at k.tasks i).schedule.alarm) (sooner k.now (next_of (task_at k.tasks i).continuation) (moment_of before))
+
+-- The look asks whether a task is at ease only when these have passed.
+parts_pass : (c : After-is_at_ease) → PartsPass c.args.k c.loop-i.i c.loop-i.soonest c.if-is_planned-2.soonest
+parts_pass c =
+    let k = c.args.k in
+    let l = c.loop-i in
+    let t = task_at k.tasks l.i in
+    let a = t.schedule.alarm in
+    let g = t.continuation in
+    let b = c.if-is_planned.soonest in
+    let continued : Part (continuation_ok k.counts.interrupts g t.given) k.now (next_of g) l.soonest b =
+    elim c.if-is_planned.branch [
+      | then-is_planned+else-not-is_continuation_ok w ↦
+          record {
+            passes = sym (w.if-not-is_continuation_ok.ensures t.given (given_small k (c.well_formed.0.0, c.well_formed.0.1.1) l.i));
+            comes = sooner_more k.now (next_of g) l.soonest refl w.soonest-is w.sooner_due-soonest.ensures;
+          }
+      | else-is_planned w ↦
+          record {
+            passes = continuation_none _ _ _ (sym w.if-is_planned.ensures);
+            comes = sooner_same k.now (next_of g) l.soonest refl w.soonest-is (no_start g (sym w.if-is_planned.ensures));
+          }
+    ]
+    in
+    let scheduled : Part (schedule_ok day_length k.counts.interrupts t.schedule) k.now (next_of a) b c.if-is_planned-2.soonest =
+    elim c.if-is_planned-2.branch [
+      | then-is_planned-2+else-not-is_schedule_ok w ↦
+          record {
+            passes = sym w.if-not-is_schedule_ok.ensures;
+            comes = sooner_more k.now (next_of a) b refl w.soonest-is w.sooner_due-soonest-then-is_planned-2.ensures;
+          }
+      | else-is_planned-2 w ↦
+          record {
+            passes = plan_none day_length _ _ (sym w.if-is_planned-2.ensures);
+            comes = sooner_same k.now (next_of a) b refl w.soonest-is (no_start a (sym w.if-is_planned-2.ensures));
+          }
+    ]
+    in
+    let start : Starts t.alive t.kept =
+    elim c.if-is_back.branch [
+      | then-is_back+else-not-is_kept_right w ↦ start_kept t.alive t.kept (sym w.if-not-is_kept_right.ensures)
+      | else-is_back w ↦ start_none t.alive t.kept (sym w.if-is_back.ensures)
+    ]
+    in
+    record {
+      schedule = scheduled.passes;
+      continuation = continued.passes;
+      start = start;
+      comes = scheduled.comes ∙ rw continued.comes;
+    }
 
 -- ---- the goals
 
@@ -110,43 +171,7 @@ loop-i-preserved-then-not-is_at_ease c =
     let l = c.loop-i in
     let v = l.invariant in
     let t = task_at k.tasks l.i in
-    let a = t.schedule.alarm in
-    let g = t.continuation in
-    let b = c.if-is_planned.soonest in
-    let continued : Part (continuation_ok k.counts.interrupts g t.given) k.now (next_of g) l.soonest b =
-    elim c.if-is_planned.branch [
-      | then-is_planned+else-not-is_continuation_ok w ↦
-          record {
-            passes = sym (w.if-not-is_continuation_ok.ensures t.given (given_small k (c.well_formed.0.0, c.well_formed.0.1.1) l.i));
-            comes = sooner_more k.now (next_of g) l.soonest refl w.soonest-is w.sooner_due-soonest.ensures;
-          }
-      | else-is_planned w ↦
-          record {
-            passes = continuation_none _ _ _ (sym w.if-is_planned.ensures);
-            comes = sooner_same k.now (next_of g) l.soonest refl w.soonest-is (no_start g (sym w.if-is_planned.ensures));
-          }
-    ]
-    in
-    let scheduled : Part (schedule_ok day_length k.counts.interrupts t.schedule) k.now (next_of a) b c.if-is_planned-2.soonest =
-    elim c.if-is_planned-2.branch [
-      | then-is_planned-2+else-not-is_schedule_ok w ↦
-          record {
-            passes = sym w.if-not-is_schedule_ok.ensures;
-            comes = sooner_more k.now (next_of a) b refl w.soonest-is w.sooner_due-soonest-then-is_planned-2.ensures;
-          }
-      | else-is_planned-2 w ↦
-          record {
-            passes = plan_none day_length _ _ (sym w.if-is_planned-2.ensures);
-            comes = sooner_same k.now (next_of a) b refl w.soonest-is (no_start a (sym w.if-is_planned-2.ensures));
-          }
-    ]
-    in
-    let start : Starts t.alive t.kept =
-    elim c.if-is_back.branch [
-      | then-is_back+else-not-is_kept_right w ↦ start_kept t.alive t.kept (sym w.if-not-is_kept_right.ensures)
-      | else-is_back w ↦ start_none t.alive t.kept (sym w.if-is_back.ensures)
-    ]
-    in
+    let parts = parts_pass (goal.at.loop-i-preserved-then-not-is_at_ease c).After-is_at_ease in
     let ready : Known n k.tasks c.if-is_missing.writers × TellsFor t.wait n k.tasks c.if-is_missing.writers =
     elim c.if-is_missing.branch [
       | then-is_missing w ↦ ready_told t.wait n k.tasks w.writers-is w.writers_of-writers.ensures
@@ -159,8 +184,8 @@ loop-i-preserved-then-not-is_at_ease c =
       all = v.all;
       looked =
           looked_next day_length k v.looked c.loop-i-test.true c.sooner_end-soonest.result
-          (fit_busy day_length k.counts k.tasks k.locks t (sym c.if-not-are_priorities.ensures) scheduled.passes continued.passes start (sym (c.if-not-is_busy_ok.ensures k.tasks ready.1)))
-          (sooner_more k.now (delay_end t.hold) c.if-is_planned-2.soonest (scheduled.comes ∙ rw continued.comes) refl c.sooner_end-soonest.ensures)
+          (fit_busy day_length k.counts k.tasks k.locks t (sym c.if-not-are_priorities.ensures) parts.schedule parts.continuation parts.start (sym (c.if-not-is_busy_ok.ensures k.tasks ready.1)))
+          (sooner_more k.now (delay_end t.hold) c.if-is_planned-2.soonest parts.comes refl c.sooner_end-soonest.ensures)
           c.with-seen.ensures
           (led_busy k.places k.tasks l.i v.looked.leads (sym c.if-not-is_at_ease.ensures));
       known = ready.0;
@@ -172,43 +197,7 @@ loop-i-preserved c =
     let l = c.loop-i in
     let v = l.invariant in
     let t = task_at k.tasks l.i in
-    let a = t.schedule.alarm in
-    let g = t.continuation in
-    let b = c.if-is_planned.soonest in
-    let continued : Part (continuation_ok k.counts.interrupts g t.given) k.now (next_of g) l.soonest b =
-    elim c.if-is_planned.branch [
-      | then-is_planned+else-not-is_continuation_ok w ↦
-          record {
-            passes = sym (w.if-not-is_continuation_ok.ensures t.given (given_small k (c.well_formed.0.0, c.well_formed.0.1.1) l.i));
-            comes = sooner_more k.now (next_of g) l.soonest refl w.soonest-is w.sooner_due-soonest.ensures;
-          }
-      | else-is_planned w ↦
-          record {
-            passes = continuation_none _ _ _ (sym w.if-is_planned.ensures);
-            comes = sooner_same k.now (next_of g) l.soonest refl w.soonest-is (no_start g (sym w.if-is_planned.ensures));
-          }
-    ]
-    in
-    let scheduled : Part (schedule_ok day_length k.counts.interrupts t.schedule) k.now (next_of a) b c.if-is_planned-2.soonest =
-    elim c.if-is_planned-2.branch [
-      | then-is_planned-2+else-not-is_schedule_ok w ↦
-          record {
-            passes = sym w.if-not-is_schedule_ok.ensures;
-            comes = sooner_more k.now (next_of a) b refl w.soonest-is w.sooner_due-soonest-then-is_planned-2.ensures;
-          }
-      | else-is_planned-2 w ↦
-          record {
-            passes = plan_none day_length _ _ (sym w.if-is_planned-2.ensures);
-            comes = sooner_same k.now (next_of a) b refl w.soonest-is (no_start a (sym w.if-is_planned-2.ensures));
-          }
-    ]
-    in
-    let start : Starts t.alive t.kept =
-    elim c.if-is_back.branch [
-      | then-is_back+else-not-is_kept_right w ↦ start_kept t.alive t.kept (sym w.if-not-is_kept_right.ensures)
-      | else-is_back w ↦ start_none t.alive t.kept (sym w.if-is_back.ensures)
-    ]
-    in
+    let parts = parts_pass (goal.at.loop-i-preserved c).After-is_at_ease in
     let ease = sym c.if-not-is_at_ease.ensures in
     record {
       few = v.few;
@@ -216,8 +205,8 @@ loop-i-preserved c =
       all = v.all;
       looked =
           looked_next day_length k v.looked c.loop-i-test.true c.if-is_planned-2.soonest
-          (fit_eased day_length k.counts k.tasks k.locks t (sym c.if-not-are_priorities.ensures) scheduled.passes continued.passes start ease)
-          (sooner_same k.now (delay_end t.hold) c.if-is_planned-2.soonest (scheduled.comes ∙ rw continued.comes) refl (eased t.wait t.hold ease).ends)
+          (fit_eased day_length k.counts k.tasks k.locks t (sym c.if-not-are_priorities.ensures) parts.schedule parts.continuation parts.start ease)
+          (sooner_same k.now (delay_end t.hold) c.if-is_planned-2.soonest parts.comes refl (eased t.wait t.hold ease).ends)
           c.with-seen.ensures
           (led_eased k.places k.tasks l.i v.looked.leads ease c.against_if-lead.ensures);
       known = v.known;
