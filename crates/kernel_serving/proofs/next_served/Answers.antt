@@ -19,7 +19,7 @@ use Rattle.kernel_urgency.proofs.LeadLaws.{led_none, led_more, led_passed, weigh
 use Rattle.kernel_serving.proofs.WaitLaws.{listed, servable_idle, servable_each}
 use Rattle.kernel_test.proofs.SoundLaws.{places_fit}
 use Rattle.kernel_serving.proofs.next_served.Goals as goal
-use Rattle.kernel_serving.proofs.next_served.Goals.{then-is_missing, else-is_missing}
+use Rattle.kernel_serving.proofs.next_served.Goals.{Joined-is_missing, then-is_missing, else-is_missing}
 
 abbrev can_serve : State → ℕ → Bool
 can_serve k = servable k.counts.tasks k.tasks k.locks
@@ -35,6 +35,18 @@ named : (k : State) (i : ℕ) → Owned k → waits_ok k ≡ true → i < k.coun
 named k i own w h e =
     let l = listed k w i h e in
     record { short = omega (arith, l.short, list_long k own i e); below = l.below }
+
+-- The writers are known where they are asked for.
+ready : (c : Joined-is_missing) → let k = c.args.k in let w = c.if-is_missing.writers in
+    Known k.counts.tasks k.tasks w × TellsFor (task_at k.tasks c.tasks.i).wait k.counts.tasks k.tasks w
+ready c =
+    let k = c.args.k in
+    let n = k.counts.tasks in
+    let t = task_at k.tasks c.tasks.i in
+    elim c.if-is_missing.branch [
+      | then-is_missing b ↦ ready_told t.wait n k.tasks b.writers-is b.writers_of-writers.ensures
+      | else-is_missing b ↦ ready_known t.wait n k.tasks b.writers-is c.tasks.invariant.2 c.is_missing.ensures b.if-is_missing.false
+    ]
 
 pub tasks-init : goal.tasks-init
 tasks-init c = (search rules, led_none _ _ c.no_lead-lead.ensures, rw c.no_writers-writers.ensures (known_none _ _))
@@ -85,16 +97,12 @@ tasks-preserved-then-not-is_available c =
     let i = c.tasks.i in
     let t = task_at k.tasks i in
     let w = c.if-is_missing.writers in
-    let ready : Known n k.tasks w × TellsFor t.wait n k.tasks w =
-    elim c.if-is_missing.branch [
-      | then-is_missing b ↦ ready_told t.wait n k.tasks b.writers-is b.writers_of-writers.ensures
-      | else-is_missing b ↦ ready_known t.wait n k.tasks b.writers-is c.tasks.invariant.2 c.is_missing.ensures b.if-is_missing.false
-    ] in
+    let known = ready (goal.at.tasks-preserved-then-not-is_available c).Joined-is_missing in
     let l = c.loop-j.invariant.1 in
-    let there = c.is_available.ensures k.locks w _ n k.tasks (shows_here k.locks w _ (number_below l.named c.loop-j-test.true)) ready.1 in
+    let there = c.is_available.ensures k.locks w _ n k.tasks (shows_here k.locks w _ (number_below l.named c.loop-j-test.true)) known.1 in
     let waits = sym c.is_waiting.ensures ∙ c.if-not-is_waiting.false in
     let e = servable_each _ k.tasks k.locks i waits ∙ sym (fails_here l c.loop-j-test.true there (ap not c.if-not-is_available.true)) in
-    (search rules, led_passed (can_serve k) (urge k) i e c.tasks.invariant.1, ready.0)
+    (search rules, led_passed (can_serve k) (urge k) i e c.tasks.invariant.1, known.0)
 
 pub loop-j-preserved : goal.loop-j-preserved
 loop-j-preserved c =
@@ -102,13 +110,9 @@ loop-j-preserved c =
     let n = k.counts.tasks in
     let t = task_at k.tasks c.tasks.i in
     let w = c.if-is_missing.writers in
-    let ready : Known n k.tasks w × TellsFor t.wait n k.tasks w =
-    elim c.if-is_missing.branch [
-      | then-is_missing b ↦ ready_told t.wait n k.tasks b.writers-is b.writers_of-writers.ensures
-      | else-is_missing b ↦ ready_known t.wait n k.tasks b.writers-is c.tasks.invariant.2 c.is_missing.ensures b.if-is_missing.false
-    ] in
+    let known = ready (goal.at.loop-j-preserved c).Joined-is_missing in
     let l = c.loop-j.invariant.1 in
-    let there = c.is_available.ensures k.locks w _ n k.tasks (shows_here k.locks w _ (number_below l.named c.loop-j-test.true)) ready.1 in
+    let there = c.is_available.ensures k.locks w _ n k.tasks (shows_here k.locks w _ (number_below l.named c.loop-j-test.true)) known.1 in
     (c.loop-j.invariant.0, passes_here l c.loop-j-test.true there (ap not c.if-not-is_available.false))
 
 pub tasks-preserved : goal.tasks-preserved
@@ -119,11 +123,7 @@ tasks-preserved c =
     let i = c.tasks.i in
     let t = task_at k.tasks i in
     let w = c.if-is_missing.writers in
-    let known : Known n k.tasks w =
-    elim c.if-is_missing.branch [
-      | then-is_missing b ↦ (ready_told t.wait n k.tasks b.writers-is b.writers_of-writers.ensures).0
-      | else-is_missing b ↦ (ready_known t.wait n k.tasks b.writers-is c.tasks.invariant.2 c.is_missing.ensures b.if-is_missing.false).0
-    ] in
+    let known = (ready (goal.at.tasks-preserved c).Joined-is_missing).0 in
     let waits = sym c.is_waiting.ensures ∙ c.if-not-is_waiting.false in
     let e = servable_each _ k.tasks k.locks i waits ∙ sym (all_pass c.loop-j.invariant.1 c.loop-j-test.false) in
     (search rules, led_more (can_serve k) (urge k) i (sym e) c.tasks.invariant.1 (weighed (placed k i c.requires c.tasks-test.true) c.urgency_of-u.ensures c.against-lead.ensures), known)

@@ -31,13 +31,33 @@ use Rattle.kernel_test.proofs.SoundLaws.{sound}
 use Rattle.kernel_changes.proofs.CallLaws.{in_order, place_in, ground, settled_refused}
 use Rattle.kernel_changes.proofs.ChangeLaws.{can_give_back, change_waits, change_done}
 use Rattle.kernel_step.proofs.done_to.Goals as goal
-use Rattle.kernel_step.proofs.done_to.Goals.{then-is_missing, else-is_missing, then-soonest, else-soonest}
+use Rattle.kernel_step.proofs.done_to.Goals.{Else-number-ne0, Joined-is_missing, then-is_missing, else-is_missing, then-soonest, else-soonest}
 
 -- The task that a call is about has a place.
 placed : (k : State) (i : ℕ) (s : Sort) (h : Head) (l : List ℕ) (r : Running) → kernel_refusal day_length k ≡ 0 → r ≡ runner k
     → formal_refusal day_length k.counts k.begun (call_with h l) ≡ 0 → s ≡ sort_of h.mark → i ≡ task_of s h r → i < most_tasks
 placed k i s h l r taken runs formed sorted at =
     rw (at ∙ ap (task_of s h) runs) (place_in day_length k h l formed (taken_valid day_length k taken) s sorted)
+
+-- The state refuses nothing.
+unrefused : (c : Else-number-ne0) → state_refusal c.args.h.mark c.args.k (call_with c.args.h c.args.list) ≡ 0
+unrefused c =
+    let a = c.args in
+    let q = c.requires in
+    sym (ground day_length a.k a.h a.list q.r_value q.sort_value q.i_value (taken_next day_length a.k q.k_value) c.state_refusal-number.ensures) ∙ c.if-number-ne0.false
+
+-- The writers are known, if the call asks for a list that depends on them.
+told : (c : Joined-is_missing) → TellsFor (asked_kind c.args.sort) c.args.k.counts.tasks c.args.k.tasks c.if-is_missing.writers
+told c =
+    let k = c.args.k in
+    let n = k.counts.tasks in
+    let v = c.asked_kind.result in
+    rw (← c.asked_kind.ensures)
+    (elim c.if-is_missing.branch [
+      | then-is_missing w ↦ (ready_told v n k.tasks w.writers-is w.writers_of-writers.ensures).1
+      | else-is_missing w ↦
+          (ready_known v n k.tasks (w.writers-is ∙ c.no_writers-writers.ensures) (known_none n k.tasks) (rw c.no_writers-writers.ensures at c.is_missing.ensures) w.if-is_missing.false).1
+    ])
 
 pub bounds-k-i : goal.bounds-k-i
 bounds-k-i c =
@@ -73,22 +93,15 @@ pub change_of-c-requires-clause-returnable : goal.change_of-c-requires-clause-re
 change_of-c-requires-clause-returnable c =
     let a = c.args in
     let q = c.requires in
-    let passed = sym (ground day_length a.k a.h a.list q.r_value q.sort_value q.i_value (taken_next day_length a.k q.k_value) c.state_refusal-number.ensures) ∙ c.if-number-ne0.false in
+    let passed = unrefused (goal.at.change_of-c-requires-clause-returnable c).Else-number-ne0 in
     can_give_back day_length a.k a.h a.list (taken_valid day_length a.k q.k_value) q.list_value passed q.sort_value
 
 pub change_of-c-requires-clause-for_some : goal.change_of-c-requires-clause-for_some
 change_of-c-requires-clause-for_some c =
     let k = c.args.k in
     let n = k.counts.tasks in
-    let v = c.asked_kind.result in
-    let told : TellsFor (asked_kind c.args.sort) n k.tasks c.if-is_missing.writers =
-    rw (← c.asked_kind.ensures)
-    (elim c.if-is_missing.branch [
-      | then-is_missing w ↦ (ready_told v n k.tasks w.writers-is w.writers_of-writers.ensures).1
-      | else-is_missing w ↦
-          (ready_known v n k.tasks (w.writers-is ∙ c.no_writers-writers.ensures) (known_none n k.tasks) (rw c.no_writers-writers.ensures at c.is_missing.ensures) w.if-is_missing.false).1
-    ]) in
-    (n, k.tasks, told)
+    let known = told (goal.at.change_of-c-requires-clause-for_some c).Joined-is_missing in
+    (n, k.tasks, known)
 
 pub bounds-k-i-2 : goal.bounds-k-i-2
 bounds-k-i-2 c =
@@ -118,16 +131,9 @@ finished-requires-clause-k_value c =
     let q = c.requires in
     let valid_at = taken_valid day_length k q.k_value in
     let n = k.counts.tasks in
-    let v = c.asked_kind.result in
-    let passed = sym (ground day_length k a.h a.list q.r_value q.sort_value q.i_value (taken_next day_length k q.k_value) c.state_refusal-number.ensures) ∙ c.if-number-ne0.false in
-    let told : TellsFor (asked_kind a.sort) n k.tasks c.if-is_missing.writers =
-    rw (← c.asked_kind.ensures)
-    (elim c.if-is_missing.branch [
-      | then-is_missing w ↦ (ready_told v n k.tasks w.writers-is w.writers_of-writers.ensures).1
-      | else-is_missing w ↦
-          (ready_known v n k.tasks (w.writers-is ∙ c.no_writers-writers.ensures) (known_none n k.tasks) (rw c.no_writers-writers.ensures at c.is_missing.ensures) w.if-is_missing.false).1
-    ]) in
-    change_waits day_length k a.h a.list valid_at q.list_value passed q.sort_value q.sort_value_2 (q.i_value ∙ ap (task_of a.sort a.h) q.r_value) (c.change_of-c.ensures n k.tasks told)
+    let passed = unrefused (goal.at.finished-requires-clause-k_value c).Else-number-ne0 in
+    let known = told (goal.at.finished-requires-clause-k_value c).Joined-is_missing in
+    change_waits day_length k a.h a.list valid_at q.list_value passed q.sort_value q.sort_value_2 (q.i_value ∙ ap (task_of a.sort a.h) q.r_value) (c.change_of-c.ensures n k.tasks known)
 
 pub finished-requires-clause-places_value : goal.finished-requires-clause-places_value
 finished-requires-clause-places_value c = (parts day_length c.args.k (taken_valid day_length c.args.k c.requires.k_value)).places
@@ -140,18 +146,11 @@ returns c =
     let valid_at = taken_valid day_length k q.k_value in
     let next_at = taken_next day_length k q.k_value in
     let n = k.counts.tasks in
-    let v = c.asked_kind.result in
     let new = set k.tasks a.i c.change_of-c.result.task in
     let at = placed k a.i a.sort a.h a.list a.r q.k_value q.r_value q.list_value q.sort_value q.i_value in
     let long = tasks_long k (c.well_formed.0.0, c.well_formed.0.1.1) in
-    let passed = sym (ground day_length k a.h a.list q.r_value q.sort_value q.i_value next_at c.state_refusal-number.ensures) ∙ c.if-number-ne0.false in
-    let told : TellsFor (asked_kind a.sort) n k.tasks c.if-is_missing.writers =
-    rw (← c.asked_kind.ensures)
-    (elim c.if-is_missing.branch [
-      | then-is_missing w ↦ (ready_told v n k.tasks w.writers-is w.writers_of-writers.ensures).1
-      | else-is_missing w ↦
-          (ready_known v n k.tasks (w.writers-is ∙ c.no_writers-writers.ensures) (known_none n k.tasks) (rw c.no_writers-writers.ensures at c.is_missing.ensures) w.if-is_missing.false).1
-    ]) in
+    let passed = unrefused (goal.at.returns c).Else-number-ne0 in
+    let known = told (goal.at.returns c).Joined-is_missing in
     -- The task is the only one that may have turned.
     let turned : Turned n k.tasks new c.with_turn-turned.result =
     rw c.with_turn-turned.ensures
@@ -167,4 +166,4 @@ returns c =
     ] in
     c.finished.ensures k.tasks turned
     ∙ change_done day_length k a.h a.list valid_at q.list_value passed q.sort_value q.sort_value_2 (q.i_value ∙ ap (task_of a.sort a.h) q.r_value)
-    (c.change_of-c.ensures n k.tasks told) c.no_sets.ensures c.put_marks.ensures next
+    (c.change_of-c.ensures n k.tasks known) c.no_sets.ensures c.put_marks.ensures next
