@@ -1,4 +1,5 @@
 -- The balance, by induction over the list of records.
+use Rattle.std.specs.Prelude.{is_some, None}
 use mathlib.Core.Path.{◌≡◌, refl, sym, ap, ◌∙◌}
 use mathlib.Core.Bool.{true, false, not, ◌&&◌}
 use mathlib.Core.List.{List, [], ◌∷◌}
@@ -13,10 +14,8 @@ use Rattle.facts.proofs.Bools.{contra, both}
 use Rattle.lock.proofs.Levels.{Law, law_refl, law_trans}
 use Rattle.lock.proofs.Taking.{writer_le}
 use Rattle.lock.proofs.Exclusion.{Exclusive, exclusive_levels}
-use Rattle.task.specs.State.{is_kept}
 use Rattle.task.specs.declared.Task.{Task}
 use Rattle.machine.specs.declared.State.{State}
-use Rattle.machine.specs.declared.Running.TheVariants.{Idle}
 use Rattle.machine.specs.Sets.{Due, Started, Ended, Lost}
 use Rattle.machine.specs.State.{task_at, fresh_task}
 use Rattle.machine.specs.Running.{running_of, runner}
@@ -39,7 +38,7 @@ record Booked (day : ℕ) (k : State) (last : Asking) (was : Open) (rs : List (L
   ok : StateOk day (final day k rs)
   exclusive : Exclusive (final day k rs).counts.bolts (final day k rs).locks
   counts_same : (final day k rs).counts ≡ k.counts
-  dues : (i : ℕ) → i < k.counts.tasks → bit (is_kept (task_at k.tasks i).kept) + count Due i (log day k rs) ≡ count Started i (log day k rs) + count Lost i (log day k rs) + bit (is_kept (task_at (final day k rs).tasks i).kept)
+  dues : (i : ℕ) → i < k.counts.tasks → bit (is_some (task_at k.tasks i).kept) + count Due i (log day k rs) ≡ count Started i (log day k rs) + count Lost i (log day k rs) + bit (is_some (task_at (final day k rs).tasks i).kept)
   starts : (i : ℕ) → i < k.counts.tasks → bit (task_at k.tasks i).alive + count Started i (log day k rs) ≡ count Ended i (log day k rs) + bit (task_at (final day k rs).tasks i).alive
   values : (v : Wait) (x : ℕ) → Law v (level v (final day k rs).locks x) (grants k.counts.tasks v x (runner k) last (log day k rs)) (returned v x (log day k rs)) (level v k.locks x)
   opens : GrantsOpen k.counts.tasks (runner k) was (log day k rs)
@@ -93,15 +92,15 @@ module _ (day : ℕ) (is_day : IsDay day) where
 
 -- ---- from a fresh kernel
 
-fresh_still : (t : Task) (p : ℕ) → t ≡ fresh_task p → (is_kept t.kept ≡ false) × (t.alive ≡ false) × (waiting t.wait ≡ false)
+fresh_still : (t : Task) (p : ℕ) → t ≡ fresh_task p → (is_some t.kept ≡ false) × (t.alive ≡ false) × (waiting t.wait ≡ false)
 fresh_still t p e = rw e (unfold fresh_task in (refl, refl, refl))
 
 pub balance : Balance
 balance day is_day k f rs o q =
     let h = ok_of_passes day k (record { tables = f.tables; tested = f.tested }) in
-    let still : (i : ℕ) → i < k.counts.tasks → (is_kept (task_at k.tasks i).kept ≡ false) × ((task_at k.tasks i).alive ≡ false) × (waiting (task_at k.tasks i).wait ≡ false) =
+    let still : (i : ℕ) → i < k.counts.tasks → (is_some (task_at k.tasks i).kept ≡ false) × ((task_at k.tasks i).alive ≡ false) × (waiting (task_at k.tasks i).wait ≡ false) =
     λ i l. fresh_still (task_at k.tasks i) _ (f.tasks i l) in
-    let idle : runner k ≡ Idle = nobody_runs k (λ i l. (still i l).1) in
+    let idle : runner k ≡ None = nobody_runs k (λ i l. (still i l).1) in
     let empty : (b : ℕ) → b < k.counts.bolts → (level Reserve k.locks b ≡ 0) × (level Enter k.locks b ≡ 0) =
     λ b l. empty_levels k b (f.bolts b l) in
     let b = booked day is_day rs k (λ i. no_names) none_open
@@ -130,7 +129,7 @@ balance day is_day k f rs o q =
       last_tested = (passes_of_ok day (final day k rs) b.ok).tested;
     }
   where
-    nobody_runs : (k : State) → ((i : ℕ) → i < k.counts.tasks → (task_at k.tasks i).alive ≡ false) → runner k ≡ Idle
+    nobody_runs : (k : State) → ((i : ℕ) → i < k.counts.tasks → (task_at k.tasks i).alive ≡ false) → runner k ≡ None
     nobody_runs k g = unfold running_of in most_urgent_none k.counts.tasks _ _ (λ i l. rw (g i l))
 
     empty_levels : (k : State) (b : ℕ) → bolt_at k.locks b ≡ record { writer = false; readers = 0 } → (level Reserve k.locks b ≡ 0) × (level Enter k.locks b ≡ 0)

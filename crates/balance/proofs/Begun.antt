@@ -1,4 +1,5 @@
 -- Once a call was accepted, no declaration is.
+use Rattle.std.specs.Prelude.{Err, Ok}
 use mathlib.Core.Path.{◌≡◌, refl}
 use mathlib.Core.Bool.{Bool, true, false, not, ◌&&◌}
 use mathlib.Core.List.{List, [], ◌∷◌}
@@ -6,9 +7,7 @@ use Prim.Native.Nat.{ℕ, zero, suc}
 use native.Mathlib.Omega.{arith}
 use lib.Dec.{eqb}
 use borrow.Author.Tests.{ne_eqb}
-use Rattle.record.specs.Reading.{call_with, opened}
-use Rattle.record.specs.declared.Read.{Read}
-use Rattle.record.specs.declared.Read.TheVariants.{Refused, Accepted}
+use Rattle.record.specs.Reading.{call_with, opened, Read}
 use Rattle.layout.specs.declared.Call.{Call}
 use Rattle.facts.proofs.Bools.{by_bool, contra, and_both}
 use Rattle.machine.specs.declared.State.{State}
@@ -60,8 +59,8 @@ module _ (day : ℕ) (k : State) (h : StateOk day k) where
   step_begins s = rw (step_on day k s (passes_of_ok day k h).tested) (go (opened s).answer refl)
     where
       go : (r : Read) → (opened s).answer ≡ r → Begins k (is_declaration r) (step_opened day k r (opened s).list)
-      go (Refused n) e = rw (opened_refused s n e) (refused_begins k false 1)
-      go (Accepted d) e = carried_begins (call_with d (opened s).list)
+      go (Err n) e = rw (opened_refused s n e) (refused_begins k false 1)
+      go (Ok d) e = carried_begins (call_with d (opened s).list)
 
 -- So it is over any list of records.
 pub begun_declares_none : (day : ℕ) → IsDay day → (rs : List (List ℕ)) (k : State) → StateOk day k → AllOctets rs → k.begun ≡ true

@@ -1,4 +1,5 @@
 -- The books of each accepted call, before the waiting tasks are served.
+use Rattle.std.specs.Prelude.{Some}
 use mathlib.Core.Path.{◌≡◌, refl, ap, ◌∙◌}
 use mathlib.Core.Logic.{◌≢◌}
 use mathlib.Core.Bool.{Bool, true, false}
@@ -22,7 +23,6 @@ use Rattle.task.specs.Turns.{unmarked}
 use Rattle.task.specs.declared.Task.{Task}
 use Rattle.task.specs.declared.Turn.{Turn}
 use Rattle.machine.specs.declared.State.{State}
-use Rattle.machine.specs.declared.Running.TheVariants.{Runs}
 use Rattle.machine.specs.State.{task_at, count_of}
 use Rattle.machine.specs.Running.{runner}
 use Rattle.machine.specs.Work.{Work, changed}
@@ -61,12 +61,12 @@ module _ (day : ℕ) (k : State) (h : StateOk day k) (c : Call) (last : Asking) 
 
   -- ---- the runner asks for a list
 
-  module _ (w : Wait) (i : ℕ) (z : waiting w ≡ true) (q : runner k ≡ Runs i) where
+  module _ (w : Wait) (i : ℕ) (z : waiting w ≡ true) (q : runner k ≡ Some i) where
     abbrev names : Named
     names = record { kind = w; list = named c }
 
     abbrev over : Asking
-    over = issued_by (Runs i) names last
+    over = issued_by (Some i) names last
 
     over_same : over i ≡ names
     over_same = rw (eq-eqb i i refl)

@@ -1,4 +1,5 @@
 -- Accepted declarations leave a fresh kernel.
+use Rattle.std.specs.Prelude.{Err, Ok}
 use mathlib.Core.Path.{◌≡◌, refl, ◌∙◌}
 use mathlib.Core.Bool.{true, false, not, ◌&&◌}
 use mathlib.Core.List.{List, [], ◌∷◌}
@@ -9,9 +10,7 @@ use lib.Seq.{get_or-set_same, get_or-set_other}
 use Rattle.layout.specs.declared.Mark.TheVariants.{DT, DB, IT}
 use Rattle.layout.specs.declared.Head.{Head}
 use Rattle.layout.specs.declared.Call.{Call}
-use Rattle.record.specs.Reading.{call_with, opened}
-use Rattle.record.specs.declared.Read.{Read}
-use Rattle.record.specs.declared.Read.TheVariants.{Refused, Accepted}
+use Rattle.record.specs.Reading.{call_with, opened, Read}
 use Rattle.lock.specs.Locks.{empty_bolt, bolt_at}
 use Rattle.facts.proofs.Bools.{by_bool, by_eq, contra, both}
 use Rattle.lock.proofs.Levels.{bolt_same, bolt_other}
@@ -111,7 +110,7 @@ young_refiled d f y = record { instant = y.instant; unbegun = y.unbegun; tasks =
 -- It is refused, or an accepted declaration.
 module _ (day : ℕ) (k : State) (h : StateOk day k) (s : List ℕ) (P : Read → Stepped → Type 0)
     (refused : (r : Read) (n : ℕ) → P r (answered k (suc n) (runner k)))
-    (done : (d : Head) (l : List ℕ) → Passed day d.mark k (call_with d l) → P (Accepted d) (declared k (declaredAs d.mark (call_with d l) k))) where
+    (done : (d : Head) (l : List ℕ) → Passed day d.mark k (call_with d l) → P (Ok d) (declared k (declaredAs d.mark (call_with d l) k))) where
   pub no_call : not (is_accepted (step day k s).answer && not (is_declaration (opened s).answer)) ≡ true → P (opened s).answer (step day k s)
   no_call q = rw on (go (opened s).answer refl (rw on at q))
     where
@@ -120,15 +119,15 @@ module _ (day : ℕ) (k : State) (h : StateOk day k) (s : List ℕ) (P : Read �
 
       carried : (d : Head) (n : ℕ) → let c = call_with d (opened s).list in
           refusal_of day k c ≡ n → not (is_accepted (or_refuse k n (carry_out day k c)).answer && not (declares d.mark)) ≡ true
-          → P (Accepted d) (or_refuse k n (carry_out day k c))
+          → P (Ok d) (or_refuse k n (carry_out day k c))
       carried d zero e z =
           let c = call_with d (opened s).list in
           by_bool (declares d.mark) (λ m. unfold carry_out in rw m (done d (opened s).list (passed day k c e))) (λ m. contra z (rw (done_number day k c, m)))
-      carried d (suc n) e z = refused (Accepted d) n
+      carried d (suc n) e z = refused (Ok d) n
 
       go : (r : Read) → (opened s).answer ≡ r → not (is_accepted (step_opened day k r (opened s).list).answer && not (is_declaration r)) ≡ true → P r (step_opened day k r (opened s).list)
-      go (Refused n) e z = rw (opened_refused s n e) (refused (Refused 2) 1)
-      go (Accepted d) e z = let by = carried_by day k (call_with d (opened s).list) in rw by (carried d _ refl (rw by at z))
+      go (Err n) e z = rw (opened_refused s n e) (refused (Err 2) 1)
+      go (Ok d) e z = let by = carried_by day k (call_with d (opened s).list) in rw by (carried d _ refl (rw by at z))
 
 module _ (day : ℕ) (is_day : IsDay day) where
   young_step : (k : State) → StateOk day k → Young k → (s : List ℕ) → not (is_accepted (step day k s).answer && not (is_declaration (opened s).answer)) ≡ true → Young (step day k s).state

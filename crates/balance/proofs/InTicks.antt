@@ -1,4 +1,5 @@
 -- A sleep counts as its ticks: for each record, then by induction over the list.
+use Rattle.std.specs.Prelude.{Err, None, Ok, Some}
 use mathlib.Core.Path.{◌≡◌, refl, sym, ap, ◌∙◌}
 use mathlib.Core.Bool.{true, false, ◌&&◌}
 use mathlib.Core.List.{List, [], ◌∷◌, ◌++◌, append_assoc}
@@ -7,29 +8,24 @@ use native.Mathlib.Omega.{arith}
 use lib.Dec.{ltb}
 use borrow.Author.Tests.{leb-true, ltb-true, ne_eqb}
 use Rattle.calendar.specs.Limits.{last_instant}
-use Rattle.calendar.specs.Moments.{comes_by, instant_or}
+use Rattle.calendar.specs.Moments.{comes_by, instant_or, Moment}
 use Rattle.calendar.specs.declared.Instant.{Instant}
-use Rattle.calendar.specs.declared.Moment.{Moment}
-use Rattle.calendar.specs.declared.Moment.TheVariants.{Never, At}
 use Rattle.layout.specs.Marks.{among, is}
 use Rattle.layout.specs.Fields.{Octets, head_of, bytes_of}
 use Rattle.layout.specs.declared.Call.{Call}
 use Rattle.layout.specs.declared.Head.{Head}
 use Rattle.layout.specs.declared.Mark.TheVariants.{SL}
 use Rattle.layout.proofs.MarksLaws.{is_mark}
-use Rattle.record.specs.Reading.{call_with, opened}
-use Rattle.record.specs.declared.Read.{Read}
-use Rattle.record.specs.declared.Read.TheVariants.{Refused, Accepted}
+use Rattle.record.specs.Reading.{call_with, opened, Read}
 use Rattle.lists.specs.Lists.{every}
 use Rattle.lock.specs.declared.Wait.{Wait}
 use Rattle.lock.specs.declared.Wait.TheVariants.{Nothing}
 use Rattle.facts.proofs.Bools.{tests, by_bool, contra, both}
 use Rattle.machine.specs.declared.State.{State}
 use Rattle.machine.specs.declared.Answer.{Answer}
-use Rattle.machine.specs.declared.Running.{Running}
+use Rattle.machine.specs.Running.{Running, runner}
 use Rattle.machine.specs.declared.Stepped.{Stepped}
 use Rattle.machine.specs.Sets.{Set}
-use Rattle.machine.specs.Running.{runner}
 use Rattle.machine.specs.NextEvent.{next_event}
 use Rattle.machine.specs.Sorts.{declares}
 use Rattle.machine.specs.Refusals.{state_refusal}
@@ -66,7 +62,7 @@ tick_listless : Listless one_tick
 unfolding names_of asks gives opened among head_of bytes_of declares
 tick_listless = record { asks_none = refl; gives_none = refl; undeclaring = refl }
 
-sleep_listless : (r : List ℕ) (h : Head) → (opened r).answer ≡ Accepted h → h.mark ≡ SL → Listless r
+sleep_listless : (r : List ℕ) (h : Head) → (opened r).answer ≡ Ok h → h.mark ≡ SL → Listless r
 unfolding names_of asks gives declares
 sleep_listless r h e m = record { asks_none = rw (e, m); gives_none = rw (e, m); undeclaring = rw (e, m) }
 
@@ -98,7 +94,7 @@ module _ (day : ℕ) (k : State) (p : Passes day k) where
       on = step_on day k r p.tested
 
       carried : (h : Head) (n : ℕ) → let c = call_with h (opened r).list in
-          (opened r).answer ≡ Accepted h → h.mark ≡ SL → refusal_of day k c ≡ n
+          (opened r).answer ≡ Ok h → h.mark ≡ SL → refusal_of day k c ≡ n
           → step day k r ≡ or_refuse k n (carry_out day k c) → is_accepted (or_refuse k n (carry_out day k c)).answer ≡ true → Sleeps r
       carried h zero e m z s a =
           let c = call_with h (opened r).list in
@@ -106,8 +102,8 @@ module _ (day : ℕ) (k : State) (p : Passes day k) where
       carried h (suc n) e m z s a = contra a (ne_eqb (suc n) 0 (λ x. omega arith))
 
       go : (x : Read) → (opened r).answer ≡ x → (is_accepted (step_opened day k x (opened r).list).answer && is_sleep x) ≡ true → Sleeps r
-      go (Refused n) e z = contra z (simp tests)
-      go (Accepted h) e z =
+      go (Err n) e z = contra z (simp tests)
+      go (Ok h) e z =
           let c = call_with h (opened r).list in
           let by = carried_by day k c in
           let b = both _ (is h.mark SL) (rw by at z) in
@@ -116,12 +112,12 @@ module _ (day : ℕ) (k : State) (p : Passes day k) where
   -- ---- its ticks
 
   -- The next event is on file, up to the last instant.
-  upcoming : comes_by last_instant (next_event k) ≡ true → (x : Instant) × (k.file.next ≡ At x) × (x.0 ≤ last_instant)
+  upcoming : comes_by last_instant (next_event k) ≡ true → (x : Instant) × (k.file.next ≡ Some x) × (x.0 ≤ last_instant)
   upcoming = go (next_event k) refl
     where
-      go : (m : Moment) → next_event k ≡ m → comes_by last_instant m ≡ true → (x : Instant) × (k.file.next ≡ At x) × (x.0 ≤ last_instant)
-      go Never e z = contra z refl
-      go (At x) e z = (x, taken_next day k p.tested ∙ e, leb-true x.0 last_instant z)
+      go : (m : Moment) → next_event k ≡ m → comes_by last_instant m ≡ true → (x : Instant) × (k.file.next ≡ Some x) × (x.0 ≤ last_instant)
+      go None e z = contra z refl
+      go (Some x) e z = (x, taken_next day k p.tested ∙ e, leb-true x.0 last_instant z)
 
   module _ (r : List ℕ) where
     record Ticked : Type 0 where

@@ -1,4 +1,5 @@
 -- The books of one step.
+use Rattle.std.specs.Prelude.{Err, Ok}
 use mathlib.Core.Path.{◌≡◌, refl, sym, ◌∙◌}
 use mathlib.Core.Logic.{◌≢◌}
 use mathlib.Core.Bool.{Bool, true, false, not, cond, ◌&&◌, ◌||◌}
@@ -8,11 +9,9 @@ use native.Mathlib.Omega.{arith}
 use lib.Dec.{eqb}
 use borrow.Author.Tests.{ne_eqb}
 use Rattle.record.specs.Refusals.{named}
-use Rattle.record.specs.Reading.{call_with, opened}
+use Rattle.record.specs.Reading.{call_with, opened, Read}
 use Rattle.layout.specs.Fields.{Octets}
 use Rattle.layout.specs.declared.Head.{Head}
-use Rattle.record.specs.declared.Read.{Read}
-use Rattle.record.specs.declared.Read.TheVariants.{Refused, Accepted}
 use Rattle.lock.specs.Locks.{bit, waiting, level}
 use Rattle.lock.specs.declared.Wait.{Wait}
 use Rattle.facts.proofs.Bools.{tests, by_bool, contra, or_right}
@@ -20,11 +19,10 @@ use Rattle.lock.proofs.Levels.{Law, law_refl}
 use Rattle.lock.proofs.Exclusion.{Exclusive}
 use Rattle.machine.specs.declared.State.{State}
 use Rattle.machine.specs.declared.Answer.{Answer}
-use Rattle.machine.specs.declared.Running.{Running}
+use Rattle.machine.specs.Running.{Running, runner}
 use Rattle.machine.specs.declared.Stepped.{Stepped}
 use Rattle.machine.specs.Sets.{Granted, has}
 use Rattle.machine.specs.State.{task_at}
-use Rattle.machine.specs.Running.{runner}
 use Rattle.machine.specs.Work.{Work}
 use Rattle.machine.specs.Sorts.{declares}
 use Rattle.machine.specs.Calls.{work_of}
@@ -112,7 +110,7 @@ module _ (day : ℕ) (is_day : IsDay day) (k : State) (last : Asking) (was : Ope
       zeros v x c = let z : 0 * c ≡ 0 = omega arith in rw z (law_refl v (level v k.locks x))
 
   module _ (d : Head) (l : List ℕ) where
-    finish_books : (w : Work) → Did day k (call_with d l) (role d.mark) w → StepBooks day k last was (Accepted d) l (finish k w)
+    finish_books : (w : Work) → Did day k (call_with d l) (role d.mark) w → StepBooks day k last was (Ok d) l (finish k w)
     unfolding finish asks gives
     finish_books w did =
         let c = call_with d l in
@@ -157,21 +155,21 @@ module _ (day : ℕ) (is_day : IsDay day) (k : State) (last : Asking) (was : Ope
           declared = regranted n w.sets _ b.declared s.granted_lt;
         }
 
-    carry_books : d.priority < 256 → not (is_accepted (carry_on day k (call_with d l)).answer && declares d.mark) ≡ true → StepBooks day k last was (Accepted d) l (carry_on day k (call_with d l))
+    carry_books : d.priority < 256 → not (is_accepted (carry_on day k (call_with d l)).answer && declares d.mark) ≡ true → StepBooks day k last was (Ok d) l (carry_on day k (call_with d l))
     carry_books b o = let by = carried_by day k (call_with d l) in rw by (go (refusal_of day k (call_with d l)) refl (rw by at o))
       where
-        go : (m : ℕ) → refusal_of day k (call_with d l) ≡ m → not (is_accepted (or_refuse k m (carry_out day k (call_with d l))).answer && declares d.mark) ≡ true → StepBooks day k last was (Accepted d) l (or_refuse k m (carry_out day k (call_with d l)))
-        go (suc m) e q = refused_books (Accepted d) l m
+        go : (m : ℕ) → refusal_of day k (call_with d l) ≡ m → not (is_accepted (or_refuse k m (carry_out day k (call_with d l))).answer && declares d.mark) ≡ true → StepBooks day k last was (Ok d) l (or_refuse k m (carry_out day k (call_with d l)))
+        go (suc m) e q = refused_books (Ok d) l m
         go zero e q =
             by_bool (declares d.mark) (λ z. contra q (rw (done_number day k (call_with d l), z)))
             (λ z. unfold carry_out in rw z
             (finish_books (work_of day k (call_with d l)) (call_done day is_day k h.ok (call_with d l) (omega arith) z (passed day k (call_with d l) e))))
 
   -- A record that reads as r with the list l.
-  read_books : (r : Read) (l : List ℕ) → ((m : ℕ) → r ≡ Refused m → m ≡ 2) → ((d : Head) → r ≡ Accepted d → d.priority < 256)
+  read_books : (r : Read) (l : List ℕ) → ((m : ℕ) → r ≡ Err m → m ≡ 2) → ((d : Head) → r ≡ Ok d → d.priority < 256)
       → not (is_accepted (step_opened day k r l).answer && is_declaration r) ≡ true → StepBooks day k last was r l (step_opened day k r l)
-  read_books (Refused m) l two byte o = let e = two m refl in rw e (refused_books (Refused 2) l 1)
-  read_books (Accepted d) l two byte o = carry_books d l (byte d refl) o
+  read_books (Err m) l two byte o = let e = two m refl in rw e (refused_books (Err 2) l 1)
+  read_books (Ok d) l two byte o = carry_books d l (byte d refl) o
 
   pub step_books : (s : List ℕ) → Octets s → not (is_accepted (step day k s).answer && is_declaration (opened s).answer) ≡ true
       → StepBooks day k last was (opened s).answer (opened s).list (step day k s)

@@ -1,4 +1,5 @@
 -- The books of a work, before the waiting tasks are served: what they are, and those of turns.
+use Rattle.std.specs.Prelude.{is_some}
 use mathlib.Core.Path.{◌≡◌, refl, sym, ap, ◌∙◌}
 use mathlib.Core.Logic.{◌≢◌}
 use mathlib.Core.Bool.{Bool, true, false, not, cond, ◌&&◌, ◌||◌}
@@ -17,16 +18,15 @@ use Rattle.lock.specs.declared.Wait.TheVariants.{Nothing}
 use Rattle.facts.proofs.Bools.{tests, by_eq}
 use Rattle.lock.proofs.Levels.{Law, law_refl}
 use Rattle.lock.proofs.Exclusion.{Exclusive}
-use Rattle.task.specs.State.{no_task, is_kept, wanted}
+use Rattle.task.specs.State.{no_task, wanted}
 use Rattle.task.specs.declared.Task.{Task}
 use Rattle.task.specs.declared.Turn.{Turn}
 use Rattle.task.specs.Promises.{Fair}
 use Rattle.machine.specs.declared.State.{State}
-use Rattle.machine.specs.declared.Running.{Running}
+use Rattle.machine.specs.Running.{Running, runner}
 use Rattle.machine.specs.Sets.{Set, Due, Started, Ended, Lost, has, only, set_of, mark, members, no_sets, with_granted}
 use Rattle.machine.specs.declared.Sets.{Sets}
 use Rattle.machine.specs.State.{task_at}
-use Rattle.machine.specs.Running.{runner}
 use Rattle.machine.specs.Work.{Work, changed, turns, every_turn}
 use Rattle.machine.proofs.SetLaws.{members_each, no_members, each_regranted, has_empty, has_only, has_only_other, only_lt}
 use Rattle.machine.proofs.Facts.{StateOk, task_room}
@@ -39,9 +39,9 @@ use Rattle.facts.proofs.Numbers.{pow_pos}
 
 -- One task, by how often each set has it; p: a PREVENT of it.
 pub record Marked (p : Bool) (t t' : Task) (m : Set → ℕ) : Type 0 where
-  pub starts : bit (is_kept t.kept) + m Due ≡ m Started + m Lost + bit (is_kept t'.kept)
+  pub starts : bit (is_some t.kept) + m Due ≡ m Started + m Lost + bit (is_some t'.kept)
   pub ends : bit t.alive + m Started ≡ m Ended + bit t'.alive
-  pub lost : m Lost ≡ bit (is_kept t.kept && ((eqb (m Due) 1 && t.alive) || p))
+  pub lost : m Lost ≡ bit (is_some t.kept && ((eqb (m Due) 1 && t.alive) || p))
 
 pub marked_as : {p : Bool} {t t' : Task} (m m' : Set → ℕ) → ((x : Set) → m' x ≡ m x) → Marked p t t' m → Marked p t t' m'
 marked_as m m' e h =

@@ -1,14 +1,11 @@
 -- The balance, demand 3: one statement about every list of records from a fresh kernel. Proved in proofs/Balanced.antt
 -- and proofs/Parted.antt.
-use Rattle.std.specs.Prelude.{◌≡◌, ◌≢◌, Bool, true, false, ◌&&◌, ◌||◌, List, [], ◌∷◌, ◌++◌, ℕ, ◌+◌, ◌<◌, ◌≤◌, ◌^◌, eqb}
+use Rattle.std.specs.Prelude.{is_some, Err, None, Ok, ◌≡◌, ◌≢◌, Bool, true, false, ◌&&◌, ◌||◌, List, [], ◌∷◌, ◌++◌, ℕ, ◌+◌, ◌<◌, ◌≤◌, ◌^◌, eqb}
 use Rattle.layout.specs.Marks.{is}
-use Rattle.record.specs.Reading.{opened}
+use Rattle.record.specs.Reading.{opened, Read}
 use Rattle.layout.specs.declared.Mark.TheVariants.{PR}
-use Rattle.record.specs.declared.Read.{Read}
-use Rattle.record.specs.declared.Read.TheVariants.{Refused, Accepted}
 use Rattle.lock.specs.Locks.{bit, waiting, level}
 use Rattle.lock.specs.declared.Wait.TheVariants.{Request, Reserve, Enter}
-use Rattle.task.specs.State.{is_kept}
 use Rattle.machine.specs.Sets.{Set, Due, Started, Ended, Lost, has, members}
 use Rattle.machine.specs.State.{task_at, nothing}
 use Rattle.machine.specs.Granting.{servable}
@@ -19,7 +16,6 @@ use Rattle.machine.specs.Members.{Membership}
 use Rattle.machine.specs.Invariants.{IsDay}
 use Rattle.machine.specs.declared.State.{State}
 use Rattle.machine.specs.declared.Answer.{Answer}
-use Rattle.machine.specs.declared.Running.TheVariants.{Idle}
 use Rattle.balance.specs.Counting.{count, is_accepted, returned, granted, none_open, GrantsOpen, open_from}
 use Rattle.balance.specs.Fresh.{Fresh, accepted_declaration, accepted_call, turned_away, without, presets, Preset}
 
@@ -29,7 +25,7 @@ pub record Sums (k : State) (es : List Entry) (z : State) : Type 0 where
   -- dues = starts + losses + the one kept back
   pub dues : (i : ℕ) → i < k.counts.tasks
       → count Due i es
-      ≡ count Started i es + count Lost i es + bit (is_kept (task_at z.tasks i).kept)
+      ≡ count Started i es + count Lost i es + bit (is_some (task_at z.tasks i).kept)
   -- starts = ends + the one alive
   pub starts : (i : ℕ) → i < k.counts.tasks
       → count Started i es ≡ count Ended i es + bit (task_at z.tasks i).alive
@@ -47,8 +43,8 @@ pub record Sums (k : State) (es : List Entry) (z : State) : Type 0 where
   -- never a writer together with a reader
   pub exclusive : (b : ℕ) → b < k.counts.bolts → level Reserve z.locks b ≡ 1 → level Enter z.locks b ≡ 0
   -- each granted mark belongs to an asking not granted before, and those left open are the ones that wait
-  pub grants : GrantsOpen k.counts.tasks Idle none_open es
-  pub waiters : (i : ℕ) → i < k.counts.tasks → waiting (task_at z.tasks i).wait ≡ open_from Idle none_open es i
+  pub grants : GrantsOpen k.counts.tasks None none_open es
+  pub waiters : (i : ℕ) → i < k.counts.tasks → waiting (task_at z.tasks i).wait ≡ open_from None none_open es i
   -- no task waits while its whole list could be granted
   pub nobody : (i : ℕ) → i < k.counts.tasks → servable z.counts.tasks z.tasks z.locks i ≡ false
   -- the counts declared stay
@@ -57,13 +53,13 @@ pub record Sums (k : State) (es : List Entry) (z : State) : Type 0 where
 -- ---- at each record of the list, with the kernel handed in
 
 abbrev pub prevents : Read → ℕ → Bool
-prevents (Refused n) i = false
-prevents (Accepted h) i = is h.mark PR && eqb h.number i
+prevents (Err n) i = false
+prevents (Ok h) i = is h.mark PR && eqb h.number i
 
 -- The two ways to lose a start; both need one kept back.
 abbrev pub loses : State → List ℕ → Answer → ℕ → Bool
 loses k r a i =
-    is_kept (task_at k.tasks i).kept
+    is_some (task_at k.tasks i).kept
     && ((eqb (has i a.sets.due) 1 && (task_at k.tasks i).alive) || (is_accepted a && prevents (opened r).answer i))
 
 pub record RightStep (day : ℕ) (k : State) (r : List ℕ) (a : Answer) (z : State) : Type 0 where

@@ -1,11 +1,9 @@
 -- What document 01's balance counts over a log of records and answers.
-use Rattle.std.specs.Prelude.{◌≡◌, Bool, true, false, not, cond, ◌&&◌, ◌||◌, List, [], ◌∷◌, ℕ, ◌+◌, ◌*◌, ◌<◌, eqb}
+use Rattle.std.specs.Prelude.{Err, None, Ok, Some, ◌≡◌, Bool, true, false, not, cond, ◌&&◌, ◌||◌, List, [], ◌∷◌, ℕ, ◌+◌, ◌*◌, ◌<◌, eqb}
 use Rattle.lists.specs.Lists.{names}
 use Rattle.record.specs.Refusals.{named}
-use Rattle.record.specs.Reading.{call_with, opened}
+use Rattle.record.specs.Reading.{call_with, opened, Read}
 use Rattle.layout.specs.declared.Mark.{Mark}
-use Rattle.record.specs.declared.Read.{Read}
-use Rattle.record.specs.declared.Read.TheVariants.{Refused, Accepted}
 use Rattle.lock.specs.Locks.{bit, waiting, same_kind}
 use Rattle.lock.specs.declared.Wait.{Wait}
 use Rattle.lock.specs.declared.Wait.TheVariants.{Nothing}
@@ -14,8 +12,7 @@ use Rattle.machine.specs.Sums.{sum_below}
 use Rattle.machine.specs.Sorts.{sort_of, asked_kind, staying, given_kind}
 use Rattle.machine.specs.Log.{Entry}
 use Rattle.machine.specs.declared.Answer.{Answer}
-use Rattle.machine.specs.declared.Running.{Running}
-use Rattle.machine.specs.declared.Running.TheVariants.{Idle, Runs}
+use Rattle.machine.specs.Running.{Running}
 
 -- How many answers have task i in a set.
 unfoldable pub count : Set → ℕ → List Entry → ℕ
@@ -44,8 +41,8 @@ abbrev pub no_names : Named
 no_names = record { kind = Nothing; list = [] }
 
 abbrev pub names_in : (Mark → Wait) → Read → List ℕ → Named
-names_in f (Refused n) l = no_names
-names_in f (Accepted h) l = record { kind = f h.mark; list = named (call_with h l) }
+names_in f (Err n) l = no_names
+names_in f (Ok h) l = record { kind = f h.mark; list = named (call_with h l) }
 
 -- What a record names, by what its mark asks for or gives back.
 unfoldable pub names_of : (Mark → Wait) → List ℕ → Named
@@ -69,8 +66,8 @@ abbrev pub Asking : Type 0
 Asking = ℕ → Named
 
 abbrev pub issued_by : Running → Named → Asking → Asking
-issued_by Idle n last i = last i
-issued_by (Runs j) n last i = cond (eqb i j) n (last i)
+issued_by None n last i = last i
+issued_by (Some j) n last i = cond (eqb i j) n (last i)
 
 -- After an answer: an accepted asking call belongs to the running task of the answer before.
 unfoldable pub asked_after : Running → Entry → Asking → Asking
@@ -90,7 +87,7 @@ grants n v x before last (e ∷ es) =
 
 -- Nobody runs and nobody has asked before the first record.
 abbrev pub granted : ℕ → Wait → ℕ → List Entry → ℕ
-granted n v x es = grants n v x Idle (λ i. no_names) es
+granted n v x es = grants n v x None (λ i. no_names) es
 
 -- ---- open askings
 
@@ -102,13 +99,13 @@ abbrev pub none_open : Open
 none_open i = false
 
 abbrev pub is_issuer : Running → ℕ → Bool
-is_issuer Idle i = false
-is_issuer (Runs j) i = eqb i j
+is_issuer None i = false
+is_issuer (Some j) i = eqb i j
 
 -- An asking stays open after its own answer, but for a TRY.
 abbrev pub stays : Read → Bool
-stays (Refused n) = true
-stays (Accepted h) = staying (sort_of h.mark)
+stays (Err n) = true
+stays (Ok h) = staying (sort_of h.mark)
 
 -- Task i issued the record of e, an accepted RQ, TR, RS or ET.
 unfoldable pub asks_now : Running → Entry → ℕ → Bool

@@ -1,10 +1,8 @@
 -- Fresh kernels: nothing declared, or accepted declarations only.
-use Rattle.std.specs.Prelude.{◌≡◌, Bool, true, false, not, cond, ◌&&◌, ◌||◌, List, [], ◌∷◌, ◌++◌, ℕ, ◌<◌, eqb, length, get_or}
+use Rattle.std.specs.Prelude.{Err, Ok, ◌≡◌, Bool, true, false, not, cond, ◌&&◌, ◌||◌, List, [], ◌∷◌, ◌++◌, ℕ, ◌<◌, eqb, length, get_or}
 use Rattle.layout.specs.Marks.{is}
-use Rattle.record.specs.Reading.{opened}
+use Rattle.record.specs.Reading.{opened, Read}
 use Rattle.layout.specs.declared.Mark.TheVariants.{DS}
-use Rattle.record.specs.declared.Read.{Read}
-use Rattle.record.specs.declared.Read.TheVariants.{Refused, Accepted}
 use Rattle.lock.specs.Locks.{empty_bolt, bolt_at, level}
 use Rattle.lock.specs.declared.Wait.TheVariants.{Request}
 use Rattle.machine.specs.State.{task_at, enabled_at, fresh_task, nothing}
@@ -49,8 +47,8 @@ DeclaredIsFresh =
 
 -- The first time of a DS.
 abbrev pub preset_in : Read → List ℕ
-preset_in (Refused n) = []
-preset_in (Accepted h) = cond (is h.mark DS) (h.first ∷ []) []
+preset_in (Err n) = []
+preset_in (Ok h) = cond (is h.mark DS) (h.first ∷ []) []
 
 -- Those of the accepted DS of a log, in order.
 unfoldable pub presets : List Entry → List ℕ

@@ -1,12 +1,10 @@
 -- A sleep counts as its ticks (request 7): any list of records is held against the list with so many TI for each accepted
 -- SL. Proved in proofs/InTicks.antt.
-use Rattle.std.specs.Prelude.{◌≡◌, Bool, true, false, cond, ◌&&◌, List, [], ◌∷◌, ◌++◌, ℕ, ◌-◌}
+use Rattle.std.specs.Prelude.{Err, Ok, ◌≡◌, Bool, true, false, cond, ◌&&◌, List, [], ◌∷◌, ◌++◌, ℕ, ◌-◌}
 use Rattle.calendar.specs.Moments.{instant_or}
 use Rattle.layout.specs.Marks.{is}
 use Rattle.layout.specs.declared.Mark.TheVariants.{SL}
-use Rattle.record.specs.Reading.{opened}
-use Rattle.record.specs.declared.Read.{Read}
-use Rattle.record.specs.declared.Read.TheVariants.{Refused, Accepted}
+use Rattle.record.specs.Reading.{opened, Read}
 use Rattle.lock.specs.declared.Wait.{Wait}
 use Rattle.machine.specs.Sets.{Set}
 use Rattle.machine.specs.Step.{step}
@@ -23,8 +21,8 @@ use Rattle.balance.specs.Balance.{Balanced}
 
 -- What was opened is an SL.
 abbrev pub is_sleep : Read → Bool
-is_sleep (Refused n) = false
-is_sleep (Accepted h) = is h.mark SL
+is_sleep (Err n) = false
+is_sleep (Ok h) = is h.mark SL
 
 -- How many ticks it is to the next event on file.
 abbrev pub ticks_to_next : State → ℕ

@@ -1,4 +1,5 @@
 -- No due and no end lies further ahead than the longest duration.
+use Rattle.std.specs.Prelude.{None, Some}
 use mathlib.Core.Bool.{Bool, true, false, cond, ◌&&◌}
 use Prim.Native.Nat.{ℕ, ◌+◌, ◌-◌, ◌≤◌, ◌<◌}
 use native.Mathlib.Nat.{mod-lt}
@@ -9,8 +10,7 @@ use Rattle.calendar.specs.declared.Start.{Start}
 use Rattle.calendar.specs.declared.Start.TheVariants.{Now, AtTime, After}
 use Rattle.calendar.specs.declared.End.{End}
 use Rattle.calendar.specs.declared.End.TheVariants.{Open, Until, During}
-use Rattle.calendar.specs.declared.Moment.{Moment}
-use Rattle.calendar.specs.declared.Moment.TheVariants.{Never, At}
+use Rattle.calendar.specs.Moments.{Moment}
 use Rattle.calendar.specs.Limits.{longest_duration}
 use Rattle.calendar.specs.Times.{duration, plus, time_of_day, until}
 use Rattle.calendar.specs.Dues.{first_due, last_allowed, allowed, next_due}
@@ -27,8 +27,8 @@ ShortEnd (Until t) = Unit {0}
 ShortEnd (During d) = d.0 ≤ longest_duration
 
 abbrev pub Within : ℕ → Moment → Type 0
-Within m Never = Unit {0}
-Within m (At n) = n.0 ≤ m
+Within m None = Unit {0}
+Within m (Some n) = n.0 ≤ m
 
 module _ (day : ℕ) (some : 0 < day) (room : day ≤ longest_duration) (clock : ℕ) where
   until_lt : (n : Instant) (t : ℕ) → (until day clock n t).0 < day
@@ -51,10 +51,10 @@ pub next_within : (period : ℕ) (last : Moment) (n : Instant) → period ≤ lo
 unfolding next_due
 next_within period last n h = pick (ltb 0 period && allowed last (plus n (duration period)))
   where
-    pick : (b : Bool) → Within (n.0 + longest_duration) (cond b (At (plus n (duration period))) Never)
+    pick : (b : Bool) → Within (n.0 + longest_duration) (cond b (Some (plus n (duration period))) None)
     pick true = omega arith
     pick false = tt
 
 pub within_more : (m n : ℕ) (t : Moment) → m ≤ n → Within m t → Within n t
-within_more m n Never h w = tt
-within_more m n (At x) h w = omega arith
+within_more m n None h w = tt
+within_more m n (Some x) h w = omega arith

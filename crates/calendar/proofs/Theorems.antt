@@ -1,4 +1,5 @@
 -- The promises of specs/Promises.antt.
+use Rattle.std.specs.Prelude.{None, Some}
 use mathlib.Core.Path.{◌≡◌, refl, sym, ap, ◌∙◌}
 use mathlib.Core.Bool.{Bool, true, false, ◌&&◌, cond, and-eq-true_iff}
 use Prim.Native.Nat.{ℕ, ◌+◌, ◌-◌, ◌/◌, ◌%◌, ◌≤◌, ◌<◌}
@@ -11,7 +12,6 @@ use Rattle.calendar.specs.declared.Instant.{Instant}
 use Rattle.calendar.specs.declared.Start.{Start}
 use Rattle.calendar.specs.declared.Start.TheVariants.{Now, AtTime, After}
 use Rattle.calendar.specs.declared.End.TheVariants.{Open, Until, During}
-use Rattle.calendar.specs.declared.Moment.TheVariants.{Never, At}
 use Rattle.calendar.specs.Limits.{day_length, longest_duration, most_instant, is_duration}
 use Rattle.calendar.specs.Times.{duration, plus, time_of_day, until}
 use Rattle.calendar.specs.Dues.{first_due, last_allowed, allowed, next_due}
@@ -42,7 +42,7 @@ until_is_next day clock t n h =
     let time : (clock + (n.0 + w)) % day ≡ t = ap (◌% day) (sym (add_assoc clock n.0 w)) ∙ to_rest (clock + n.0) t day h in
     record {
       not_before = omega arith;
-      within_aDay = omega arith;
+      within_a_day = omega arith;
       time_is = time;
       none_between = λ k a e. omega (arith, same_rest (clock + (n.0 + w)) (clock + k.0) day (time ∙ sym e) (omega arith));
     }
@@ -92,7 +92,7 @@ first_is_allowed day clock (Until t) f = (last_belongs (plus f (until day clock 
 first_is_allowed day clock (During d) f = (last_belongs (plus f d) f).0 (omega arith)
 
 -- A choice of an instant says that the test held, and which instant it was.
-chosen : (b : Bool) (x m : Instant) → cond b (At x) Never ≡ At m → (b ≡ true) × (x ≡ m)
+chosen : (b : Bool) (x m : Instant) → cond b (Some x) None ≡ Some m → (b ≡ true) × (x ≡ m)
 chosen true x m e = (refl, cc)
 chosen false x m e = (cc, cc)
 
@@ -113,7 +113,7 @@ first_most clock Now n e = omega arith
 first_most clock (AtTime t) n e = omega arith
 first_most clock (After d) n e = omega (arith, in_range d.0 e)
 
-stored : (n : Instant) → n.0 ≤ most_instant → is_stored (At n) ≡ true
+stored : (n : Instant) → n.0 ≤ most_instant → is_stored (Some n) ≡ true
 unfolding is_stored
 stored n = le-leb n.0 most_instant
 
@@ -133,6 +133,6 @@ pub next_is_stored : NextIsStored
 unfolding is_stored next_due
 next_is_stored period last n h e = go (ltb 0 period && allowed last (plus n (duration period)))
   where
-    go : (b : Bool) → is_stored (cond b (At (plus n (duration period))) Never) ≡ true
+    go : (b : Bool) → is_stored (cond b (Some (plus n (duration period))) None) ≡ true
     go true = stored (plus n (duration period)) (omega (arith, leb-true period longest_duration e))
     go false = refl

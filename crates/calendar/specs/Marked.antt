@@ -1,12 +1,11 @@
 -- The marked cases of document 01 that speak of times. Each is proved in proofs/Marked.antt.
-use Rattle.std.specs.Prelude.{◌≡◌, List, [], ◌∷◌, ℕ, zero, suc, ◌*◌}
+use Rattle.std.specs.Prelude.{None, Some, ◌≡◌, List, [], ◌∷◌, ℕ, zero, suc, ◌*◌}
 use Rattle.calendar.specs.declared.Instant.{Instant}
 use Rattle.calendar.specs.declared.Start.{Start}
 use Rattle.calendar.specs.declared.Start.TheVariants.{AtTime}
 use Rattle.calendar.specs.declared.End.{End}
 use Rattle.calendar.specs.declared.End.TheVariants.{Open, Until}
-use Rattle.calendar.specs.declared.Moment.{Moment}
-use Rattle.calendar.specs.declared.Moment.TheVariants.{Never, At}
+use Rattle.calendar.specs.Moments.{Moment}
 use Rattle.calendar.specs.Limits.{day_length, hour}
 use Rattle.calendar.specs.Times.{instant}
 use Rattle.calendar.specs.Dues.{first_due, last_allowed, next_due}
@@ -14,14 +13,14 @@ use Rattle.calendar.specs.Dues.{first_due, last_allowed, next_due}
 -- A due and those that follow it, at most so many.
 unfoldable pub following : ℕ → ℕ → Moment → Moment → List ℕ
 following zero period last due = []
-following (suc most) period last Never = []
-following (suc most) period last (At n) = n.0 ∷ following most period last (next_due period last n)
+following (suc most) period last None = []
+following (suc most) period last (Some n) = n.0 ∷ following most period last (next_due period last n)
 
 -- The instants at which a start that takes effect at n comes due, at most 1,000 of them.
 unfoldable pub dues : ℕ → Instant → Start → ℕ → End → List ℕ
 dues clock n start period end =
     let first = first_due day_length start clock n in
-    following 1000 period (last_allowed day_length end clock first) (At first)
+    following 1000 period (last_allowed day_length end clock first) (Some first)
 
 pub record MarkedTable : Type 0 where
   -- M2: 12:00, AT 22:00 ALL 2 h UNTIL 2:00

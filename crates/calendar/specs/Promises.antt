@@ -1,13 +1,12 @@
 -- What every start keeps, whatever the numbers. Each of these is proved in proofs/Theorems.antt.
-use Rattle.std.specs.Prelude.{◌≡◌, Bool, true, false, ℕ, ◌+◌, ◌≤◌, ◌<◌, leb}
+use Rattle.std.specs.Prelude.{None, Some, ◌≡◌, Bool, true, false, ℕ, ◌+◌, ◌≤◌, ◌<◌, leb}
 use Rattle.calendar.specs.declared.Instant.{Instant}
 use Rattle.calendar.specs.declared.Duration.{Duration}
 use Rattle.calendar.specs.declared.Start.{Start}
 use Rattle.calendar.specs.declared.Start.TheVariants.{Now, AtTime, After}
 use Rattle.calendar.specs.declared.End.{End}
 use Rattle.calendar.specs.declared.End.TheVariants.{Open, Until, During}
-use Rattle.calendar.specs.declared.Moment.{Moment}
-use Rattle.calendar.specs.declared.Moment.TheVariants.{Never, At}
+use Rattle.calendar.specs.Moments.{Moment}
 use Rattle.calendar.specs.Limits.{day_length, last_instant, most_instant, is_duration, is_period}
 use Rattle.calendar.specs.Times.{duration, plus, time_of_day, until}
 use Rattle.calendar.specs.Dues.{first_due, last_allowed, allowed, next_due}
@@ -15,7 +14,7 @@ use Rattle.calendar.specs.Dues.{first_due, last_allowed, allowed, next_due}
 -- m is the next instant from n on whose time of day is t.
 pub record IsNext (day clock t : ℕ) (n m : Instant) : Type 0 where
   pub not_before : n.0 ≤ m.0
-  pub within_aDay : m.0 < n.0 + day
+  pub within_a_day : m.0 < n.0 + day
   pub time_is : time_of_day day clock m ≡ t
   pub none_between : (k : Instant) → n.0 ≤ k.0 → time_of_day day clock k ≡ t → m.0 ≤ k.0
 
@@ -33,7 +32,7 @@ AtIsNext =
 abbrev pub EndIsNext : Type 0
 EndIsNext =
     (day clock t : ℕ) (f : Instant) → t < day →
-    (l : Instant) × (last_allowed day (Until t) clock f ≡ At l) × IsNext day clock t f l
+    (l : Instant) × (last_allowed day (Until t) clock f ≡ Some l) × IsNext day clock t f l
 
 -- From now to the present time of day it is no time at all.
 abbrev pub PresentIsNow : Type 0
@@ -63,14 +62,14 @@ FirstIsAllowed =
 abbrev pub NextIsLater : Type 0
 NextIsLater =
     (period : ℕ) (last : Moment) (n m : Instant) →
-    next_due period last n ≡ At m →
+    next_due period last n ≡ Some m →
     (n.0 < m.0) × (m.0 ≡ n.0 + period) × (allowed last m ≡ true)
 
 -- Both ends belong: what is allowed goes up to the last instant, itself included, and no further.
 abbrev pub LastBelongs : Type 0
 LastBelongs =
     (l n : Instant) →
-    (n.0 ≤ l.0 → allowed (At l) n ≡ true) × (l.0 < n.0 → allowed (At l) n ≡ false)
+    (n.0 ≤ l.0 → allowed (Some l) n ≡ true) × (l.0 < n.0 → allowed (Some l) n ≡ false)
 
 -- The durations of a start and of an end are in range.
 unfoldable pub start_fits : Start → Bool
@@ -85,14 +84,14 @@ end_fits (During d) = is_duration d.0
 
 -- The moment is at most the largest stored instant.
 unfoldable pub is_stored : Moment → Bool
-is_stored Never = true
-is_stored (At n) = leb n.0 most_instant
+is_stored None = true
+is_stored (Some n) = leb n.0 most_instant
 
 -- First, last and next, counted from a present instant, can be stored.
 abbrev pub FirstIsStored : Type 0
 FirstIsStored =
     (clock : ℕ) (s : Start) (n : Instant) →
-    n.0 ≤ last_instant → start_fits s ≡ true → is_stored (At (first_due day_length s clock n)) ≡ true
+    n.0 ≤ last_instant → start_fits s ≡ true → is_stored (Some (first_due day_length s clock n)) ≡ true
 
 abbrev pub LastIsStored : Type 0
 LastIsStored =

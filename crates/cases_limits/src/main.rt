@@ -3,72 +3,34 @@
 // stdout has the lines that document 01 gives.
 #![tactic(auto)]
 
-ghost use Rattle.std.specs.Prelude.{◌≡◌, set};
-ghost use Rattle.task.specs.Continuations.{with_next};
-ghost use Rattle.machine.specs.State.{task_at, with_state};
-
-use calendar::{Duration, End, Instant, LAST_INSTANT, LONGEST_DURATION, MOST_INSTANT, Moment};
-use cases_showing::{show, start};
+use calendar::{Duration, End, Instant, LAST_INSTANT, LONGEST_DURATION, MOST_INSTANT};
+use cases_showing::{TOO_FAR, TOO_LONG, alarm, changed, continuing, show, start};
 use kernel::{Kernel, StartCondition};
-use lock::{Bolt, Wait};
-use machine::{Counts, OnFile, Running};
-use schedule::{Alarm, Plan, Schedule};
-use task::{Hold, Kept, Task};
+use layout::Numbers;
+use lock::Wait;
+use machine::State;
+use schedule::{Alarm, Plan};
+use task::Hold;
 
-// A duration beyond the longest, and an instant beyond the largest stored one.
-const TOO_LONG: u32 = LONGEST_DURATION + 1;
-
-const TOO_FAR: u64 = MOST_INSTANT + 1;
-
-// An alarm of a plan: its interrupt, delay and next due.
-fn alarm(plan: Plan, interrupt: u8, delay: u32, next: u64) -> Alarm
-    ensures { result ≡ record { plan = plan; interrupt = interrupt; delay = record { 0 = delay }; next = record { 0 = next } } }
+// Prints the line of a tick of the kernel with a value written into it.
+fn tick_with<P: Print, C: FnOnce(&mut State)>(rt: &P, kernel: Kernel, change: C)
+    requires { C.IsAlwaysCallable change }
 {
-    Alarm {
-        plan,
-        interrupt,
-        delay: Duration(delay),
-        next: Instant(next),
-    }
+    show(rt, changed(kernel, change).tick());
 }
 
-// The kernel with another continuation of task 0.
-fn continuing(kernel: Kernel, continuation: Alarm) -> Kernel
-    ensures { let k = kernel.state in result.state ≡ with_state (set k.tasks 0 (with_next continuation (task_at k.tasks 0))) k.locks k.enabled k }
-{
-    let mut k = kernel.state;
-    let t = k.tasks[0];
-    k.tasks[0] = Task { continuation, ..t };
-    Kernel { state: k }
-}
-
-// Prints the line of a tick of the kernel with other counts.
-fn tick_counting<P: Print>(rt: &P, kernel: Kernel, counts: Counts) {
-    let mut k = kernel.state;
-    k.counts = counts;
-    show(rt, Kernel { state: k }.tick());
-}
-
-// The same with another task 0.
-fn tick_with<P: Print>(rt: &P, kernel: Kernel, t: Task) {
-    let mut k = kernel.state;
-    k.tasks[0] = t;
-    show(rt, Kernel { state: k }.tick());
-}
-
-// The same with another schedule of task 0.
-fn tick_on<P: Print>(rt: &P, kernel: Kernel, schedule: Schedule) {
-    let k = kernel.state;
-    let t = k.tasks[0];
-    tick_with(rt, kernel, Task { schedule, ..t });
-}
-
-// The same with another alarm of that schedule.
+// The same with another alarm of task 0's schedule.
 fn tick_by<P: Print>(rt: &P, kernel: Kernel, alarm: Alarm) {
-    let k = kernel.state;
-    let t = k.tasks[0];
-    let s = t.schedule;
-    tick_on(rt, kernel, Schedule { alarm, ..s });
+    tick_with(rt, kernel, |k| k.tasks[0].schedule.alarm = alarm);
+}
+
+// The same with task 0 waiting so.
+fn tick_waiting<P: Print>(rt: &P, kernel: Kernel, wait: Wait, n: u8, list: Numbers) {
+    tick_with(
+        rt,
+        kernel,
+        |k| k.tasks[0] = k.tasks[0].wait_for(wait, n, list),
+    );
 }
 
 // Counts and an instant one too large, and the counts of semaphores, bolts and interrupts that are just not. The only
@@ -77,35 +39,17 @@ fn counts_beyond<P: Print>(rt: &P) {
     let mut kernel = Kernel::fresh();
     kernel = show(rt, kernel.declare_task(5));
     kernel = show(rt, kernel.tick());
-    let mut k = kernel.state;
-    let c = k.counts;
-    tick_counting(rt, kernel, Counts { tasks: 33, ..c });
-    tick_counting(
-        rt,
-        kernel,
-        Counts {
-            semaphores: 17,
-            ..c
-        },
-    );
-    tick_counting(rt, kernel, Counts { bolts: 17, ..c });
-    tick_counting(rt, kernel, Counts { interrupts: 9, ..c });
-    tick_counting(
-        rt,
-        kernel,
-        Counts {
-            semaphores: 16,
-            bolts: 16,
-            interrupts: 8,
-            ..c
-        },
-    );
-    let late = Instant(LAST_INSTANT + 1);
-    k.now = late;
-    show(rt, Kernel { state: k }.tick());
-    k = kernel.state;
-    k.places[0] = 32;
-    show(rt, Kernel { state: k }.tick());
+    tick_with(rt, kernel, |k| k.counts.tasks = 33);
+    tick_with(rt, kernel, |k| k.counts.semaphores = 17);
+    tick_with(rt, kernel, |k| k.counts.bolts = 17);
+    tick_with(rt, kernel, |k| k.counts.interrupts = 9);
+    tick_with(rt, kernel, |k| {
+        k.counts.semaphores = 16;
+        k.counts.bolts = 16;
+        k.counts.interrupts = 8;
+    });
+    tick_with(rt, kernel, |k| k.now = Instant(LAST_INSTANT + 1));
+    tick_with(rt, kernel, |k| k.places[0] = 32);
 }
 
 // A task with a priority 0, declared, current or kept back; delayed for too long; terminated and held or with a start
@@ -114,47 +58,24 @@ fn tasks_beyond<P: Print>(rt: &P) {
     let mut kernel = Kernel::fresh();
     kernel = show(rt, kernel.declare_task(5));
     kernel = show(rt, kernel.activate(0, 0, start(0, 0)));
-    let k = kernel.state;
-    let t = k.tasks[0];
-    let none = Kept::Back(0);
-    let last = Kept::Back(255);
-    let suspended = Hold::Suspended;
-    let delayed = Hold::Delayed(Instant(9));
-    let too_far = Hold::Delayed(Instant(TOO_FAR));
-    let alive = false;
-    tick_with(rt, kernel, Task { declared: 0, ..t });
-    tick_with(rt, kernel, Task { current: 0, ..t });
-    tick_with(rt, kernel, Task { kept: none, ..t });
-    tick_with(rt, kernel, Task { hold: too_far, ..t });
-    let dead = Task { alive, ..t };
-    tick_with(rt, kernel, Task { kept: last, ..dead });
+    tick_with(rt, kernel, |k| k.tasks[0].declared = 0);
+    tick_with(rt, kernel, |k| k.tasks[0].current = 0);
+    tick_with(rt, kernel, |k| k.tasks[0].kept = Some(0));
     tick_with(
         rt,
         kernel,
-        Task {
-            hold: suspended,
-            ..dead
-        },
+        |k| k.tasks[0].hold = Hold::Delayed(Instant(TOO_FAR)),
     );
-    tick_with(
-        rt,
-        kernel,
-        Task {
-            hold: delayed,
-            ..dead
-        },
-    );
-    tick_with(
-        rt,
-        kernel,
-        Task {
-            declared: 255,
-            current: 1,
-            kept: last,
-            ..t
-        },
-    );
-    tick_with(rt, kernel, t.wait_for(Wait::Nothing, 5, [200; 4]));
+    let dead = changed(kernel, |k| k.tasks[0].alive = false);
+    tick_with(rt, dead, |k| k.tasks[0].kept = Some(255));
+    tick_with(rt, dead, |k| k.tasks[0].hold = Hold::Suspended);
+    tick_with(rt, dead, |k| k.tasks[0].hold = Hold::Delayed(Instant(9)));
+    tick_with(rt, kernel, |k| {
+        k.tasks[0].declared = 255;
+        k.tasks[0].current = 1;
+        k.tasks[0].kept = Some(255);
+    });
+    tick_waiting(rt, kernel, Wait::Nothing, 5, [200; 4]);
 }
 
 // A delay until the largest stored instant, which nobody reaches.
@@ -162,16 +83,12 @@ fn far_delay<P: Print>(rt: &P) {
     let mut kernel = Kernel::fresh();
     kernel = show(rt, kernel.declare_task(5));
     kernel = show(rt, kernel.activate(0, 0, start(0, 0)));
-    let mut k = kernel.state;
-    let t = k.tasks[0];
-    let hold = Hold::Delayed(Instant(MOST_INSTANT));
-    k.tasks[0] = Task { hold, ..t };
-    let file = OnFile {
-        running: Running::Idle,
-        next: Moment::At(Instant(MOST_INSTANT)),
-    };
-    k.file = file;
-    kernel = show(rt, Kernel { state: k }.tick());
+    kernel = changed(kernel, |k| {
+        k.tasks[0].hold = Hold::Delayed(Instant(MOST_INSTANT));
+        k.file.running = None;
+        k.file.next = Some(Instant(MOST_INSTANT));
+    });
+    kernel = show(rt, kernel.tick());
     kernel = show(rt, kernel.sleep());
     show(rt, kernel.continue_task(0, 0, start(0, 0)));
 }
@@ -185,18 +102,15 @@ fn waits_beyond<P: Print>(rt: &P) {
     kernel = show(rt, kernel.declare_semaphore(1));
     kernel = show(rt, kernel.declare_bolt());
     kernel = show(rt, kernel.activate(0, 0, start(0, 0)));
-    let k = kernel.state;
-    let t = k.tasks[0];
-    tick_with(rt, kernel, t.wait_for(Wait::Request, 0, [0; 4]));
-    tick_with(rt, kernel, t.wait_for(Wait::Request, 5, [0, 1, 2, 3]));
-    tick_with(rt, kernel, t.wait_for(Wait::Request, 2, [0; 4]));
-    tick_with(rt, kernel, t.wait_for(Wait::Request, 2, [0, 2, 0, 0]));
-    tick_with(rt, kernel, t.wait_for(Wait::Request, 1, [1, 0, 0, 0]));
-    tick_with(rt, kernel, t.wait_for(Wait::Enter, 1, [1, 0, 0, 0]));
-    tick_with(rt, kernel, t.wait_for(Wait::Reserve, 1, [0; 4]));
-    let alive = false;
-    let dead = Task { alive, ..t };
-    tick_with(rt, kernel, dead.wait_for(Wait::Request, 1, [0; 4]));
+    tick_waiting(rt, kernel, Wait::Request, 0, [0; 4]);
+    tick_waiting(rt, kernel, Wait::Request, 5, [0, 1, 2, 3]);
+    tick_waiting(rt, kernel, Wait::Request, 2, [0; 4]);
+    tick_waiting(rt, kernel, Wait::Request, 2, [0, 2, 0, 0]);
+    tick_waiting(rt, kernel, Wait::Request, 1, [1, 0, 0, 0]);
+    tick_waiting(rt, kernel, Wait::Enter, 1, [1, 0, 0, 0]);
+    tick_waiting(rt, kernel, Wait::Reserve, 1, [0; 4]);
+    let dead = changed(kernel, |k| k.tasks[0].alive = false);
+    tick_waiting(rt, dead, Wait::Request, 1, [0; 4]);
 }
 
 // A wait that no call began, on a list of which one isn't free, and is served.
@@ -208,15 +122,12 @@ fn written_wait<P: Print>(rt: &P) {
     kernel = show(rt, kernel.declare_semaphore(1));
     kernel = show(rt, kernel.activate(0, 0, start(0, 0)));
     kernel = show(rt, kernel.activate(1, 0, start(0, 0)));
-    let mut k = kernel.state;
-    let t = k.tasks[0];
-    k.tasks[0] = t.wait_for(Wait::Request, 2, [0, 1, 0, 0]);
-    let file = OnFile {
-        running: Running::Runs(1),
-        next: Moment::Never,
-    };
-    k.file = file;
-    kernel = show(rt, Kernel { state: k }.tick());
+    kernel = changed(kernel, |k| {
+        k.tasks[0] = k.tasks[0].wait_for(Wait::Request, 2, [0, 1, 0, 0]);
+        k.file.running = Some(1);
+        k.file.next = None;
+    });
+    kernel = show(rt, kernel.tick());
     show(rt, kernel.release(1, [0; 4]));
 }
 
@@ -226,43 +137,28 @@ fn schedules_beyond<P: Print>(rt: &P) {
     let mut kernel = Kernel::fresh();
     kernel = show(rt, kernel.declare_task(5));
     kernel = show(rt, kernel.activate(0, 0, start(2, 9)));
-    let k = kernel.state;
-    let t = k.tasks[0];
-    let s = t.schedule;
-    let too_short = End::During(Duration(0));
-    let too_long = End::During(Duration(TOO_LONG));
-    let longest = End::During(Duration(LONGEST_DURATION));
-    let too_far = Moment::At(Instant(TOO_FAR));
-    let last = Moment::At(Instant(MOST_INSTANT));
-    tick_on(rt, kernel, Schedule { priority: 0, ..s });
-    tick_on(
+    tick_with(rt, kernel, |k| k.tasks[0].schedule.priority = 0);
+    tick_with(rt, kernel, |k| k.tasks[0].schedule.period = TOO_LONG);
+    tick_with(
         rt,
         kernel,
-        Schedule {
-            period: TOO_LONG,
-            ..s
-        },
+        |k| k.tasks[0].schedule.end = End::During(Duration(0)),
     );
-    tick_on(
+    tick_with(
         rt,
         kernel,
-        Schedule {
-            end: too_short,
-            ..s
-        },
+        |k| k.tasks[0].schedule.end = End::During(Duration(TOO_LONG)),
     );
-    tick_on(rt, kernel, Schedule { end: too_long, ..s });
-    tick_on(rt, kernel, Schedule { last: too_far, ..s });
-    tick_on(
+    tick_with(
         rt,
         kernel,
-        Schedule {
-            last,
-            end: longest,
-            period: LONGEST_DURATION,
-            ..s
-        },
+        |k| k.tasks[0].schedule.last = Some(Instant(TOO_FAR)),
     );
+    tick_with(rt, kernel, |k| {
+        k.tasks[0].schedule.last = Some(Instant(MOST_INSTANT));
+        k.tasks[0].schedule.end = End::During(Duration(LONGEST_DURATION));
+        k.tasks[0].schedule.period = LONGEST_DURATION;
+    });
 }
 
 // A schedule on an interrupt that isn't declared, before and after its trigger; with a delay that is too long; due too
@@ -291,24 +187,13 @@ fn not_looked_at<P: Print>(rt: &P) {
     kernel = show(rt, kernel.declare_task(6));
     kernel = show(rt, kernel.declare_interrupt());
     kernel = show(rt, kernel.activate(1, 0, start(2, 1)));
-    let mut k = kernel.state;
-    let t = k.tasks[0];
-    let s = t.schedule;
-    let armed = Schedule {
-        alarm: alarm(Plan::Armed, 0, 0, TOO_FAR),
-        priority: 1,
-        ..s
-    };
-    tick_on(rt, kernel, armed);
-    let none = Schedule {
-        alarm: alarm(Plan::None, 1, TOO_LONG, 5),
-        ..s
-    };
-    k.tasks[0] = Task {
-        schedule: none,
-        ..t
-    };
-    kernel = show(rt, Kernel { state: k }.tick());
+    tick_with(rt, kernel, |k| {
+        k.tasks[0].schedule.alarm = alarm(Plan::Armed, 0, 0, TOO_FAR);
+        k.tasks[0].schedule.priority = 1;
+    });
+    let none = alarm(Plan::None, 1, TOO_LONG, 5);
+    kernel = changed(kernel, |k| k.tasks[0].schedule.alarm = none);
+    kernel = show(rt, kernel.tick());
     show(rt, kernel.sleep());
 }
 
@@ -333,15 +218,8 @@ fn many_readers<P: Print>(rt: &P) {
     kernel = show(rt, kernel.declare_bolt());
     kernel = show(rt, kernel.activate(0, 0, start(0, 0)));
     kernel = show(rt, kernel.activate(1, 0, start(0, 0)));
-    let mut k = kernel.state;
-    let mut locks = k.locks;
-    let b = Bolt {
-        writer: false,
-        readers: 65_534,
-    };
-    locks.bolts[0] = b;
-    k.locks = locks;
-    kernel = show(rt, Kernel { state: k }.enter(1, [0; 4]));
+    kernel = changed(kernel, |k| k.locks.bolts[0].readers = 65_534);
+    kernel = show(rt, kernel.enter(1, [0; 4]));
     kernel = show(rt, kernel.enter(1, [0; 4]));
     show(rt, kernel.leave(1, [0; 4]));
 }
@@ -350,10 +228,8 @@ fn many_readers<P: Print>(rt: &P) {
 fn last_due<P: Print>(rt: &P) {
     let mut kernel = Kernel::fresh();
     kernel = show(rt, kernel.declare_task(5));
-    let near = Instant(LAST_INSTANT - 1);
-    let mut k = kernel.state;
-    k.now = near;
-    kernel = show(rt, Kernel { state: k }.activate(0, 0, start(2, 1)));
+    kernel = changed(kernel, |k| k.now = Instant(LAST_INSTANT - 1));
+    kernel = show(rt, kernel.activate(0, 0, start(2, 1)));
     kernel = show(rt, kernel.tick());
     show(rt, kernel.tick());
 }
@@ -413,10 +289,11 @@ fn beyond_counts<P: Print>(rt: &P) {
     let mut kernel = Kernel::fresh();
     kernel = show(rt, kernel.declare_task(5));
     kernel = show(rt, kernel.activate(0, 0, start(0, 0)));
-    let mut k = kernel.state;
-    let t = k.tasks[0];
-    k.tasks[1] = Task { current: 1, ..t };
-    kernel = show(rt, Kernel { state: k }.prevent(0));
+    kernel = changed(kernel, |k| {
+        k.tasks[1] = k.tasks[0];
+        k.tasks[1].current = 1;
+    });
+    kernel = show(rt, kernel.prevent(0));
     show(rt, kernel.end());
 }
 

@@ -1,26 +1,13 @@
 // Calls the methods as a program would, and prints their lines. stdout has the lines that document 01 gives.
 #![tactic(auto)]
 
-ghost use Rattle.std.specs.Prelude.{◌≡◌, set};
-ghost use Rattle.task.specs.Continuations.{with_next};
-ghost use Rattle.machine.specs.State.{task_at, with_state};
-
-use calendar::{
-    DAY_LENGTH, Duration, End, Instant, LAST_INSTANT, LONGEST_DURATION, MOST_INSTANT, Moment,
-};
-use cases_showing::{show, show_running, start};
+use calendar::{DAY_LENGTH, End, Instant, LAST_INSTANT};
+use cases_showing::{TOO_FAR, TOO_LONG, alarm, changed, continuing, show, show_running, start};
 use kernel::Kernel;
-use machine::{OnFile, Running};
-use schedule::{Alarm, Plan, Schedule};
-use task::Task;
+use schedule::Plan;
 
 // Half of the day is over.
 const NOON: u32 = DAY_LENGTH / 2;
-
-// A duration beyond the longest, and an instant beyond the largest stored one.
-const TOO_LONG: u32 = LONGEST_DURATION + 1;
-
-const TOO_FAR: u64 = MOST_INSTANT + 1;
 
 // Two tasks ask for a semaphore and a bolt.
 fn locks<P: Print>(rt: &P) {
@@ -101,10 +88,8 @@ fn continuations<P: Print>(rt: &P) {
 fn last_instant<P: Print>(rt: &P) {
     let mut kernel = Kernel::fresh();
     kernel = show(rt, kernel.declare_task(5));
-    let near = Instant(LAST_INSTANT - 1);
-    let mut k = kernel.state;
-    k.now = near;
-    kernel = show(rt, Kernel { state: k }.activate(0, 0, start(0, 0)));
+    kernel = changed(kernel, |k| k.now = Instant(LAST_INSTANT - 1));
+    kernel = show(rt, kernel.activate(0, 0, start(0, 0)));
     kernel = show(rt, kernel.tick());
     kernel = show(rt, kernel.tick());
     kernel = show(rt, kernel.terminate(0));
@@ -116,13 +101,11 @@ fn beyond_limits<P: Print>(rt: &P) {
     let mut kernel = Kernel::fresh();
     kernel = show(rt, kernel.declare_task(5));
     kernel = show(rt, kernel.activate(0, 0, start(0, 0)));
-    let mut k = kernel.state;
-    k.clock = DAY_LENGTH;
-    kernel = show(rt, Kernel { state: k }.tick());
+    kernel = changed(kernel, |k| k.clock = DAY_LENGTH);
+    kernel = show(rt, kernel.tick());
     kernel = show(rt, kernel.step(b"TI"));
-    k = kernel.state;
-    k.clock = DAY_LENGTH - 1;
-    show(rt, Kernel { state: k }.tick());
+    kernel = changed(kernel, |k| k.clock = DAY_LENGTH - 1);
+    show(rt, kernel.tick());
 }
 
 // Places written into a kernel with two equal tasks: one taken twice, one out of range, one of an undeclared task, and
@@ -133,25 +116,22 @@ fn other_places<P: Print>(rt: &P) {
     kernel = show(rt, kernel.declare_task(5));
     kernel = show(rt, kernel.activate(0, 0, start(0, 0)));
     kernel = show(rt, kernel.activate(1, 0, start(0, 0)));
-    let mut k = kernel.state;
-    k.places[1] = 0;
-    kernel = show(rt, Kernel { state: k }.tick());
-    k = kernel.state;
-    k.places[1] = 2;
-    kernel = show(rt, Kernel { state: k }.tick());
-    k = kernel.state;
-    k.places[1] = 1;
-    k.places[2] = 1;
-    kernel = show(rt, Kernel { state: k }.tick());
-    k = kernel.state;
-    k.places[0] = 1;
-    k.places[1] = 0;
-    let file = OnFile {
-        running: Running::Runs(1),
-        next: Moment::Never,
-    };
-    k.file = file;
-    show(rt, Kernel { state: k }.tick());
+    kernel = changed(kernel, |k| k.places[1] = 0);
+    kernel = show(rt, kernel.tick());
+    kernel = changed(kernel, |k| k.places[1] = 2);
+    kernel = show(rt, kernel.tick());
+    kernel = changed(kernel, |k| {
+        k.places[1] = 1;
+        k.places[2] = 1;
+    });
+    kernel = show(rt, kernel.tick());
+    kernel = changed(kernel, |k| {
+        k.places[0] = 1;
+        k.places[1] = 0;
+        k.file.running = Some(1);
+        k.file.next = None;
+    });
+    show(rt, kernel.tick());
 }
 
 // A schedule that no call leaves and that passes the test: its next due after its last, an end and no period. The
@@ -162,18 +142,12 @@ fn odd_schedule<P: Print>(rt: &P) {
     kernel = show(rt, kernel.declare_task(6));
     kernel = show(rt, kernel.activate(1, 0, start(0, 0)));
     kernel = show(rt, kernel.activate(0, 0, start(2, 1)));
-    let mut k = kernel.state;
-    let t = k.tasks[0];
-    let s = t.schedule;
-    let last = Moment::At(Instant(0));
-    let end = End::Until(0);
-    let schedule = Schedule { last, end, ..s };
-    k.tasks[0] = Task {
-        current: 7,
-        schedule,
-        ..t
-    };
-    kernel = show(rt, Kernel { state: k }.tick());
+    kernel = changed(kernel, |k| {
+        k.tasks[0].current = 7;
+        k.tasks[0].schedule.last = Some(Instant(0));
+        k.tasks[0].schedule.end = End::Until(0);
+    });
+    kernel = show(rt, kernel.tick());
     show(rt, kernel.tick());
 }
 
@@ -185,50 +159,15 @@ fn stored_ends<P: Print>(rt: &P) {
     kernel = show(rt, kernel.declare_interrupt());
     kernel = show(rt, kernel.activate(0, 0, start(0, 0)));
     kernel = show(rt, kernel.activate(0, 0, start(3, 0)));
-    let mut k = kernel.state;
-    let mut t = k.tasks[0];
-    let mut s = t.schedule;
-    let last = Moment::At(Instant(TOO_FAR));
-    let armed = Schedule { last, ..s };
-    k.tasks[0] = Task {
-        schedule: armed,
-        ..t
-    };
-    kernel = show(rt, Kernel { state: k }.tick());
+    kernel = changed(
+        kernel,
+        |k| k.tasks[0].schedule.last = Some(Instant(TOO_FAR)),
+    );
+    kernel = show(rt, kernel.tick());
     kernel = show(rt, kernel.activate(0, 0, start(2, 1)));
-    k = kernel.state;
-    t = k.tasks[0];
-    s = t.schedule;
-    let end = End::Until(DAY_LENGTH);
-    let ended = Schedule { end, ..s };
-    k.tasks[0] = Task {
-        schedule: ended,
-        ..t
-    };
-    kernel = show(rt, Kernel { state: k }.tick());
+    kernel = changed(kernel, |k| k.tasks[0].schedule.end = End::Until(DAY_LENGTH));
+    kernel = show(rt, kernel.tick());
     show_running(rt, kernel);
-}
-
-// An alarm of a plan: its interrupt, delay and next due.
-fn alarm(plan: Plan, interrupt: u8, delay: u32, next: u64) -> Alarm
-    ensures { result ≡ record { plan = plan; interrupt = interrupt; delay = record { 0 = delay }; next = record { 0 = next } } }
-{
-    Alarm {
-        plan,
-        interrupt,
-        delay: Duration(delay),
-        next: Instant(next),
-    }
-}
-
-// The kernel with another continuation of task 0.
-fn continuing(kernel: Kernel, continuation: Alarm) -> Kernel
-    ensures { let k = kernel.state in result.state ≡ with_state (set k.tasks 0 (with_next continuation (task_at k.tasks 0))) k.locks k.enabled k }
-{
-    let mut k = kernel.state;
-    let t = k.tasks[0];
-    k.tasks[0] = Task { continuation, ..t };
-    Kernel { state: k }
 }
 
 // A continuation on an interrupt that isn't declared, one with a delay that is too long, and one that is due beyond the

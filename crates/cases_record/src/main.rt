@@ -2,63 +2,29 @@
 // number, and the number that the writer gives for the same fields, or - where the record has no fields.
 #![tactic(auto)]
 
-ghost use Rattle.std.specs.Prelude.{◌≡◌, ◌≤◌};
-ghost use Rattle.record.specs.Reading.{number_of};
-
-use feed::read_full;
+use feed::each_record;
 use layout::Call;
-use record::{Read, reader, writer};
-
-fn number_of(answer: Read) -> u8
-    ensures { result ≡ number_of answer }
-{
-    match answer {
-        Read::Refused(n) => n,
-        Read::Accepted(_) => 0,
-    }
-}
-
-// A byte as a length.
-fn wide(b: u8) -> usize
-    ensures value { result ≡ b }
-    ensures upper_bound { result ≤ 255 }
-{
-    b as usize
-}
+use record::{reader, writer};
 
 // The writer's number for the fields of a record, or -.
 fn print_written<P: Print>(rt: &P, s: &[u8]) {
     let r = reader::open(s);
-    let answer = r.answer;
     let list = r.list;
-    let Read::Accepted(head) = answer else {
+    let Ok(head) = r.answer else {
         let _ = rt.write_all(b"-");
         return;
     };
-    let w = writer::write(Call { head, list });
-    let number = w.number;
+    let number = writer::write(Call { head, list }).number;
     let _ = print!(rt; "{number}");
 }
 
 fn print_line<P: Print>(rt: &P, s: &[u8]) {
-    let r = reader::read(s);
-    let answer = r.answer;
-    let number = number_of(answer);
+    let number = reader::read(s).answer.err().unwrap_or(0);
     let _ = print!(rt; "{number} ");
     print_written(rt, s);
     let _ = rt.write_all(b"\n");
 }
 
 fn main(rt: HostRuntime) {
-    let mut input = rt.stdin();
-    let mut buf = [0u8; 256];
-    let mut one = [0u8; 1];
-    for _ in 0..u64::MAX {
-        if read_full(&mut input, &mut one) == 0 {
-            return;
-        }
-        let len = wide(one[0]);
-        let n = read_full(&mut input, &mut buf[..len]);
-        print_line(&rt, &buf[..n]);
-    }
+    each_record(&mut rt.stdin(), |_, s| print_line(&rt, s));
 }

@@ -2,58 +2,49 @@
 // for the lines, so that it gets full. Standard input and output are those of cases_step.
 #![tactic(auto)]
 
-ghost use Rattle.std.specs.Prelude.{◌≡◌, ◌≤◌};
-
 use feed::read_full;
 use kernel::Kernel;
 use script::Script;
-use script::run::{LONGEST_LINE, run};
+use script::run::{LONGEST_LINE, Ran, run};
 
 // The room for lines: ten of the shortest, 14 bytes each, leave just enough for one of any length.
 const ROOM: usize = 203;
 
-// A script's lines, a buffer full at a time.
-fn print_script<P: Print>(rt: &P, s: &[u8]) {
-    let mut out = [0u8; 200];
+// A script carried out, a buffer full at a time, each with its lines handed to tell.
+fn run_through<T: FnMut(Ran, &[u8])>(s: &[u8], out: &mut [u8], mut tell: T)
+    requires { T.IsAlwaysCallable tell }
+{
     let mut script = Script::begin(Kernel::fresh());
-    let mut at = 0;
-    while at < s.len() {
-        let ran = run(script, &s[at..], &mut out);
-        let _ = rt.write_all(&out[..ran.written]);
+    let mut rest = s;
+    // How much of the rest a run has read it says itself, so chunks would be no plainer.
+    while !rest.is_empty() {
+        let ran = run(script, rest, out);
+        tell(ran, &out[..ran.written]);
         if ran.read == 0 {
             return;
         }
         script = ran.script;
-        at = at + ran.read;
+        rest = &rest[ran.read..];
     }
+}
+
+// A script's lines.
+fn print_script<P: Print>(rt: &P, s: &[u8]) {
+    run_through(s, &mut [0; 200], |_, lines| {
+        let _ = rt.write_all(lines);
+    });
 }
 
 // The same without its lines: a line where a run says that it is full although there is room for one.
 fn print_left<P: Print>(rt: &P, s: &[u8]) {
-    let mut out = [0u8; ROOM];
-    let mut script = Script::begin(Kernel::fresh());
-    let mut at = 0;
-    while at < s.len() {
-        let ran = run(script, &s[at..], &mut out);
+    run_through(s, &mut [0; ROOM], |ran, _| {
         if ran.full & (ran.written <= ROOM - LONGEST_LINE) {
             let _ = rt.write_all(b"room is left\n");
         }
-        if ran.read == 0 {
-            return;
-        }
-        script = ran.script;
-        at = at + ran.read;
-    }
+    });
 }
 
-// A byte as a length.
-fn wide(b: u8) -> usize
-    ensures value { result ≡ b }
-    ensures upper_bound { result ≤ 255 }
-{
-    b as usize
-}
-
+// Records are gathered to scripts here, so they aren't gone through one by one, as each_record does.
 fn main(rt: HostRuntime) {
     let mut input = rt.stdin();
     let mut buf = [0u8; 65536];
@@ -61,7 +52,7 @@ fn main(rt: HostRuntime) {
     let mut fill = 0;
     for _ in 0..u64::MAX {
         let got = read_full(&mut input, &mut one);
-        let len = wide(one[0]);
+        let len = usize::from(one[0]);
         if (got == 0) | (len == 0) {
             print_script(&rt, &buf[..fill]);
             print_left(&rt, &buf[..fill]);

@@ -3,9 +3,7 @@
 // for one semaphore at its end.
 #![tactic(auto)]
 
-ghost use Rattle.std.specs.Prelude.{◌≡◌, ◌≤◌};
-
-use feed::read_full;
+use feed::each_record;
 use kernel::Kernel;
 use machine::State;
 use wait_lines::text_at;
@@ -16,36 +14,17 @@ fn print_waits<P: Print>(rt: &P, k: State) {
     let _ = rt.write_all(&out[..n]);
 }
 
-// A byte as a length.
-fn wide(b: u8) -> usize
-    ensures value { result ≡ b }
-    ensures upper_bound { result ≤ 255 }
-{
-    b as usize
-}
-
 // A fresh kernel has no lines, so nothing is printed before the first script.
 fn main(rt: HostRuntime) {
-    let mut input = rt.stdin();
-    let mut buf = [0u8; 256];
-    let mut one = [0u8; 1];
     let mut kernel = Kernel::fresh();
-    for _ in 0..u64::MAX {
-        let got = read_full(&mut input, &mut one);
-        let len = wide(one[0]);
-        if (got == 0) | (len == 0) {
+    each_record(&mut rt.stdin(), |len, s| {
+        if len == 0 {
             print_waits(&rt, kernel.state);
             kernel = Kernel::fresh();
-        }
-        if got == 0 {
-            return;
-        }
-        if len == 0 {
             let _ = rt.write_all(b"\n");
-            continue;
+        } else {
+            kernel = kernel.step(s).kernel;
         }
-        let n = read_full(&mut input, &mut buf[..len]);
-        let reply = kernel.step(&buf[..n]);
-        kernel = reply.kernel;
-    }
+    });
+    print_waits(&rt, kernel.state);
 }

@@ -2,12 +2,11 @@
 use mathlib.Core.Path.{◌≡◌, refl, sym}
 use mathlib.Core.List.{List, [], ◌∷◌}
 use Rattle.calendar.specs.Limits.{day_length}
-use Rattle.machine.specs.declared.Running.{Running}
+use Rattle.machine.specs.Running.{Running, runner}
 use Rattle.machine.proofs.Invariants.{is_day_law}
 use Rattle.wait_bound.specs.Stages.{stages_from}
 use Rattle.wait_bound.proofs.Bounded.{wait_is_bounded, bound_holds}
 use Rattle.kernel.specs.declared.Kernel.{Kernel}
-use Rattle.machine.specs.Running.{runner}
 use Rattle.delivery.specs.Delivered.{Use, Handed, records}
 use Rattle.delivery.specs.Waited.{uses_from, CodeStages, CodeWaits, CodeBoundHolds}
 use Rattle.delivery.proofs.Delivered.{next_state, answered}

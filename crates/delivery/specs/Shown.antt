@@ -2,14 +2,14 @@
 -- does. Proved in proofs/Shown.antt.
 use Rattle.std.specs.Prelude.{◌≡◌, List, ℕ}
 use Rattle.calendar.specs.Limits.{day_length}
-use Rattle.calendar.specs.declared.Moment.{Moment}
+use Rattle.calendar.specs.Moments.{Moment}
 use Rattle.task.specs.State.{runnable}
 use Rattle.machine.specs.State.{task_at}
 use Rattle.machine.specs.Test.{kernel_refusal}
 use Rattle.machine.specs.Log.{AllOctets}
 use Rattle.machine.specs.Quiet.{IsNextEvent}
 use Rattle.machine.specs.Promises.{Chosen}
-use Rattle.machine.specs.declared.Running.{Running}
+use Rattle.machine.specs.Running.{Running}
 use Rattle.machine.specs.declared.State.{State}
 use Rattle.kernel.specs.declared.Kernel.{Kernel}
 use Rattle.kernel.proofs.Kernel.running.Reads as running

@@ -1,14 +1,11 @@
 -- How long a waiting task waits, of what the code hands back: by `Kernel::step`, by the methods, and the bound by
 -- `bound_of` (request 4). Proved in proofs/Waited.antt.
-use Rattle.std.specs.Prelude.{◌≡◌, List, [], ◌∷◌, ℕ, suc, ◌<◌, ◌≤◌}
+use Rattle.std.specs.Prelude.{Some, ◌≡◌, List, [], ◌∷◌, ℕ, suc, ◌<◌, ◌≤◌}
 use Rattle.calendar.specs.Limits.{day_length}
-use Rattle.machine.specs.Running.{runner}
+use Rattle.machine.specs.Running.{runner, Running}
 use Rattle.machine.specs.Log.{AllOctets}
 use Rattle.machine.specs.Invariants.{Passes}
-use Rattle.machine.specs.declared.Running.{Running}
-use Rattle.wait_bound.specs.Queue.{ahead}
-use Rattle.wait_bound.specs.declared.Bound.{Bound}
-use Rattle.wait_bound.specs.declared.Bound.TheVariants.{Within}
+use Rattle.wait_bound.specs.Queue.{ahead, Bound}
 use Rattle.wait_bound.specs.declared.Releases.{Releases}
 use Rattle.kernel_bound.proofs.bound_of.Reads as bound
 use Rattle.wait_bound.specs.Stages.{Stage, stages, how_many, while}
@@ -52,6 +49,6 @@ HandedBound a j r = bound.Learnt tt (a.state, (j, tt)) r (a.state, (j, tt))
 abbrev pub CodeBoundHolds : Type 0
 CodeBoundHolds =
     (a : Kernel) → Passes day_length a.state → (us : List Use) → Handed a us → AllOctets (records us)
-    → (j : ℕ) (b : Releases) → HandedBound a j (Within b)
+    → (j : ℕ) (b : Releases) → HandedBound a j (Some b)
     → let gs = stages_of a us in Undisturbed b.semaphore j (while (waits j) gs)
     → b.number ≤ how_many (releases b.semaphore) gs → GrantedBy b.number b.semaphore j gs

@@ -1,3 +1,2 @@
--- Laws of whole records, and of moving bytes to the front.
+-- Laws of whole records.
 pub mod WholeLaws
-pub mod FrontLaws

@@ -1,19 +1,34 @@
-// What the programs that read a script share: reading on, and keeping the rest.
+// What the programs share of reading: piece by piece, keeping the rest of a record, or record by record.
 #![tactic(auto)]
 
-ghost use Rattle.std.specs.Prelude.{◌≡◌, false, ◌-◌, ◌≤◌, length, drop, is_none};
+ghost use Rattle.std.specs.Prelude.{◌≡◌, IfOk, IfSome, Ok, false, ◌+◌, ◌-◌, ◌^◌, ◌≤◌, ◌<◌, ltb, length, drop, is_none};
 ghost use Rattle.std.proofs.Math.Seq.{paste};
 ghost use Rattle.feed.specs.Feeding.{whole_of, went_well, brought, NothingRead, ReadOn};
 
 use layout::RECORD_LENGTH;
-use std::io;
 use std::io::Read;
+use std::{fmt, io};
 
-// What a read has left in the buffer: how many bytes are to be carried out, and how many there are in all. It is ok
-// unless the read failed, for the reason in error; more may come unless it found the end of the input.
+// What has failed a program that reads and writes, and why.
+#[derive(Clone, Copy)]
+pub enum Failure {
+    Input(io::Error),
+    Output(io::Error),
+}
+
+impl fmt::Display for Failure {
+    fn fmt<W: fmt::Write>(&self, f: &mut fmt::Formatter<W>) -> fmt::Result {
+        match self {
+            Failure::Input(error) => write!(f, "standard input: {error}"),
+            Failure::Output(error) => write!(f, "standard output: {error}"),
+        }
+    }
+}
+
+// What a read has left in the buffer: how many bytes are to be carried out, and how many there are in all. More may
+// come unless it found the end of the input; a read that failed says why in error.
 #[derive(Clone, Copy)]
 pub struct Fed {
-    pub ok: bool,
     pub more: bool,
     pub whole: usize,
     pub total: usize,
@@ -21,6 +36,7 @@ pub struct Fed {
 }
 
 // Only whole records are carried out while more may come; a short rest is the last one.
+#[tactic(auto, unfolding(crate::specs::Feeding::whole_of))]
 fn whole_of(total: usize, more: bool) -> usize
     ensures { result ≡ whole_of total more }
 {
@@ -31,23 +47,36 @@ fn whole_of(total: usize, more: bool) -> usize
     }
 }
 
-// A read that has failed answers with an error.
-fn is_well(got: io::Result<usize>) -> bool
-    ensures { result ≡ went_well got }
+// Why a read has failed, if it has.
+fn failure_of(got: io::Result<usize>) -> Option<io::Error>
+    ensures { is_none result ≡ went_well got }
 {
-    match got {
-        Ok(_) => true,
-        Err(_) => false,
-    }
+    got.err()
 }
 
 // A read that has failed brings nothing.
 fn count_of(got: io::Result<usize>) -> usize
     ensures { result ≡ brought got }
 {
-    match got {
-        Ok(n) => n,
-        Err(_) => 0,
+    got.unwrap_or(0)
+}
+
+// What a read's answer makes of the bytes that are held.
+fn fed_by(held: usize, got: io::Result<usize>) -> Fed
+    requires { held + brought got < 2 ^ 64 }
+    ensures total { result.total ≡ held + brought got }
+    ensures more { result.more ≡ ltb held result.total }
+    ensures whole { result.whole ≡ whole_of result.total result.more }
+    ensures error { is_none result.error ≡ went_well got }
+{
+    let n = count_of(got);
+    let total = held + n;
+    let more = n != 0;
+    Fed {
+        more,
+        whole: whole_of(total, more),
+        total,
+        error: failure_of(got),
     }
 }
 
@@ -55,20 +84,9 @@ fn count_of(got: io::Result<usize>) -> usize
 pub fn read_on<R: Read>(from: &mut R, input: &mut [u8], held: usize) -> Fed
     requires { held ≤ length input.old }
     ensures read_on { ReadOn held input.old input.new result }
-    ensures failed { result.ok ≡ false → NothingRead held result }
-    ensures error { result.ok ≡ is_none result.error }
+    ensures failed { is_none result.error ≡ false → NothingRead held result }
 {
-    let got = from.read(&mut input[held..]);
-    let n = count_of(got);
-    let total = held + n;
-    let more = n != 0;
-    Fed {
-        ok: is_well(got),
-        more,
-        whole: whole_of(total, more),
-        total,
-        error: got.err(),
-    }
+    fed_by(held, from.read(&mut input[held..]))
 }
 
 // Reads until buf is full, the input ends or a read fails, and says how many bytes it has put at the start of buf.
@@ -76,12 +94,12 @@ pub fn read_full<R: Read>(from: &mut R, buf: &mut [u8]) -> usize
     ensures { result ≤ length buf.new }
 {
     let mut done = 0;
+    // No iterator would be plainer: how far a read gets is what it says itself.
     while done < buf.len() {
-        let n = count_of(from.read(&mut buf[done..]));
-        if n == 0 {
-            break;
+        match from.read(&mut buf[done..]) {
+            Ok(0) | Err(_) => break,
+            Ok(n) => done += n,
         }
-        done += n;
     }
     done
 }
@@ -93,9 +111,50 @@ pub fn keep(buf: &mut [u8], from: usize, to: usize) -> usize
     ensures value { result ≡ to - from }
     ensures buf_after { buf.new ≡ paste buf.old 0 (drop from buf.old) result }
 {
-    let n = to - from;
-    for i in 0..n {
-        buf[i] = buf[from + i];
+    buf.copy_within(from..to, 0);
+    to - from
+}
+
+// Hands what is read to step, whole records while more may come, each time with what step made of those before. Handed
+// back is what it made of the last, or None where the input doesn't end.
+pub fn fold<R: Read, S: Drop, F: FnMut(S, &[u8]) -> Result<S, Failure>>(
+    from: &mut R,
+    input: &mut [u8],
+    first: S,
+    mut step: F,
+) -> Result<Option<S>, Failure>
+    requires { F.IsAlwaysCallable step }
+    ensures { IfOk result (λ end. IfSome end (λ made. (f f' : F) × (m : S) × (b : _) × F.step f m b (Ok made) f')) }
+{
+    let mut made = first;
+    let mut held = 0;
+    for _ in 0..u64::MAX {
+        let fed = read_on(from, input, held);
+        if let Some(error) = fed.error {
+            return Err(Failure::Input(error));
+        }
+        made = step(made, &input[..fed.whole])?;
+        if !fed.more {
+            return Ok(Some(made));
+        }
+        held = keep(input, fed.whole, fed.total);
     }
-    n
+    Ok(None)
+}
+
+// Goes through an input in which each record stands behind a byte with its length, and hands on that length and the
+// record, which has fewer bytes where the input ends. Nothing is handed back, so there is nothing to promise of it.
+pub fn each_record<R: Read, F: FnMut(usize, &[u8])>(from: &mut R, mut each: F)
+    requires { F.IsAlwaysCallable each }
+{
+    let mut one = [0];
+    let mut buf = [0; 255];
+    for _ in 0..u64::MAX {
+        if read_full(from, &mut one) == 0 {
+            return;
+        }
+        let len = usize::from(one[0]);
+        let n = read_full(from, &mut buf[..len]);
+        each(len, &buf[..n]);
+    }
 }

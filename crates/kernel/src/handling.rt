@@ -14,13 +14,16 @@ use layout::fields::bytes_of;
 use machine::{Running, Stepped};
 
 // A step's next kernel and answer, as they are.
+#[tactic(auto, unfolding(crate::specs::Reply::reply))]
 fn replied(stepped: Stepped) -> Reply
     ensures { result ≡ reply stepped }
 {
-    let state = stepped.state;
-    let answer = stepped.answer;
-    let kernel = Kernel { state };
-    Reply { kernel, answer }
+    Reply {
+        kernel: Kernel {
+            state: stepped.state,
+        },
+        answer: stepped.answer,
+    }
 }
 
 impl Kernel {
@@ -35,33 +38,28 @@ impl Kernel {
     pub fn running(self) -> Running
         ensures { result ≡ self.state.file.running }
     {
-        let state = self.state;
-        let file = state.file;
-        file.running
+        self.state.file.running
     }
 
     // When something next comes without another call, or never: the moment on file.
     pub fn next_event(self) -> Moment
         ensures { result ≡ self.state.file.next }
     {
-        let state = self.state;
-        let file = state.file;
-        file.next
+        self.state.file.next
     }
 
     // The machine's step over bytes of any length.
     pub fn step(self, s: &[u8]) -> Reply
         ensures { result ≡ reply (step day_length self.state s.now) }
     {
-        let stepped = step(self.state, s);
-        replied(stepped)
+        replied(step(self.state, s))
     }
 
     // A call or declaration, by its record.
+    #[tactic(auto, using(crate::proofs::Replies::record_replies))]
     pub(crate) fn carry(self, c: Call) -> Reply
         ensures { result ≡ reply (carry day_length self.state c) }
     {
-        let record = bytes_of(c);
-        self.step(&record)
+        self.step(&bytes_of(c))
     }
 }

@@ -5,6 +5,7 @@
 ghost use Rattle.std.specs.Prelude.{◌≡◌, ◌≤◌};
 ghost use Rattle.calendar.specs.Limits.{day_length};
 ghost use Rattle.record.specs.Refusals.{shape};
+ghost use Rattle.record.specs.Numbers.{refused_with};
 ghost use Rattle.record.specs.Reading.{call_with};
 ghost use Rattle.machine.specs.Sorts.{sort_of};
 ghost use Rattle.machine.specs.Refusals.{start_declared, list_declared, declared_by, room_for, formal_refusal};
@@ -13,14 +14,15 @@ ghost use Rattle.kernel_admitting.specs.Admits.{Admits};
 
 use kernel_values::counts::{are_below, count_of};
 use kernel_values::sorts::{is_declaring, sort_of};
-use layout::{Head, Mark, NO_LIST, Numbers};
+use layout::{Bytes, Head, Mark, NO_LIST, Numbers};
 use lock::{MOST_LOCKS, Wait};
 use machine::{Counts, MOST_INTERRUPTS, MOST_TASKS, Sort};
-use record::Read;
 use record::kinds::is_on_interrupt;
-use record::reader::open;
+use record::reader::open_record;
+use record::refusals::Refusal;
 use record::shape::shape_at;
 use record::times::times_of;
+use record::{Read, Reading};
 
 // What a record is admitted as: the answer and the list as the reader has them, and the sort of the mark.
 #[derive(Clone, Copy)]
@@ -31,6 +33,7 @@ pub struct Admitted {
 }
 
 // Whether there is room for a declaration.
+#[tactic(auto, unfolding(machine::specs::Refusals::room_for))]
 fn has_room(mark: Mark, n: Counts) -> bool
     ensures { result ≡ room_for mark n }
 {
@@ -48,7 +51,7 @@ fn is_list_declared(n: Counts, w: Wait, h: Head, list: Numbers) -> bool
     requires { h.len ≤ most_numbers }
     ensures { result ≡ list_declared n w (call_with h list) }
 {
-    are_below(list, h.len as usize, count_of(n, w))
+    are_below(&list[..h.len as usize], count_of(n, w))
 }
 
 // Whether the interrupt of a start is declared.
@@ -59,6 +62,7 @@ fn is_start_declared(n: Counts, h: Head) -> bool
 }
 
 // Whether what a call of a sort names is declared.
+#[tactic(auto, unfolding(machine::specs::Refusals::declared_by))]
 fn is_declared(sort: Sort, n: Counts, h: Head, list: Numbers) -> bool
     requires { h.len ≤ most_numbers }
     ensures { result ≡ declared_by sort n (call_with h list) }
@@ -74,51 +78,58 @@ fn is_declared(sort: Sort, n: Counts, h: Head, list: Numbers) -> bool
     }
 }
 
-// The first of refusals 2 to 7 of a call or declaration of a sort, or 0. The number by shape, 3, 4 or 0, is handed in.
-fn formal_refusal(n: Counts, begun: bool, sort: Sort, shaped: u8, h: Head, list: Numbers) -> u8
+// The first of refusals 2 to 7 of a call or declaration of a sort. What refuses its shape, 3, 4 or nothing, is handed in.
+#[tactic(auto, using(record::proofs::ReaderLaws::first_kept, record::proofs::NumberLaws::number_some, crate::proofs::Admitting::shaped_short), unfolding(machine::specs::Refusals::formal_refusal, machine::specs::Sorts::declares))]
+fn formal_refusal(
+    n: Counts,
+    begun: bool,
+    sort: Sort,
+    shaped: Result<(), Refusal>,
+    h: Head,
+    list: Numbers,
+) -> Result<(), Refusal>
     requires sort_value { sort ≡ sort_of h.mark }
-    requires shaped_value { shaped ≡ shape (call_with h list) }
-    ensures { result ≡ formal_refusal day_length n begun (call_with h list) }
+    requires shaped_value { refused_with shaped ≡ shape (call_with h list) }
+    ensures { refused_with result ≡ formal_refusal day_length n begun (call_with h list) }
 {
     if begun & is_declaring(sort) {
-        return 2;
+        return Err(Refusal::NoRecord);
     }
-    if shaped != 0 {
-        return shaped;
-    }
+    shaped?;
     if !is_declared(sort, n, h, list) {
-        return 5;
+        return Err(Refusal::Undeclared);
     }
-    let timed = times_of(h);
-    if timed != 0 {
-        return timed;
+    times_of(h)?;
+    if !has_room(h.mark, n) {
+        return Err(Refusal::NoRoom);
     }
-    let mark = h.mark;
-    if !has_room(mark, n) {
-        return 7;
-    }
-    0
+    Ok(())
 }
 
 // What bytes, counts and the first accepted call decide: the call or declaration, or the first of refusals 2 to 7.
 pub fn admit(n: Counts, begun: bool, s: &[u8]) -> Admitted
     ensures { Admits day_length n begun s.now result }
 {
-    let reading = open(s);
-    let answer = reading.answer;
-    let list = reading.list;
-    let Read::Accepted(head) = answer else {
+    let Ok(record) = <&Bytes>::try_from(s) else {
+        return Admitted {
+            answer: Err(Refusal::NoRecord.number()),
+            list: NO_LIST,
+            sort: Sort::Declaration,
+        };
+    };
+    let Reading { answer, list } = open_record(record);
+    let Ok(head) = answer else {
         let sort = Sort::Declaration;
         return Admitted { answer, list, sort };
     };
-    let mark = head.mark;
-    let sort = sort_of(mark);
-    let shaped = shape_at(s, head, list);
-    let number = formal_refusal(n, begun, sort, shaped, head, list);
-    if number != 0 {
-        let answer = Read::Refused(number);
-        let list = NO_LIST;
-        return Admitted { answer, list, sort };
+    let sort = sort_of(head.mark);
+    let shaped = shape_at(record, head, list);
+    match formal_refusal(n, begun, sort, shaped, head, list) {
+        Ok(()) => Admitted { answer, list, sort },
+        Err(refusal) => Admitted {
+            answer: Err(refusal.number()),
+            list: NO_LIST,
+            sort,
+        },
     }
-    Admitted { answer, list, sort }
 }

@@ -1,4 +1,5 @@
 -- Who is ahead: the tasks looked at so far, and what stands beyond the table. Then the bound by its tests.
+use Rattle.std.specs.Prelude.{None, Some}
 use mathlib.Core.Path.{◌≡◌, refl, sym, ◌∙◌}
 use mathlib.Core.Bool.{Bool, true, false, not, ◌&&◌, and-false}
 use Prim.Native.Nat.{ℕ, ◌+◌, ◌*◌, ◌≤◌, ◌<◌, min}
@@ -18,7 +19,6 @@ use Rattle.machine.specs.Running.{most_places, urgency}
 use Rattle.machine.specs.declared.State.{State}
 use Rattle.machine.proofs.Below.{sum_cut}
 use Rattle.wait_bound.specs.Queue.{queues, is_ahead, ahead, waited_for, bound_of}
-use Rattle.wait_bound.specs.declared.Bound.TheVariants.{Unbounded, Within}
 
 -- A sum whose parts from m on are 0.
 sum_clipped : (f : ℕ → ℕ) (m : ℕ) → ((i : ℕ) → m ≤ i → f i ≡ 0) → (n : ℕ) → sum_below (min n m) f ≡ sum_below n f
@@ -66,7 +66,7 @@ module _ (k : State) (s j : ℕ) where
 
 -- n is the number of the tasks that the table has, b what the test of the wait said.
 module _ (k : State) (i : ℕ) {n : ℕ} (long : length k.tasks ≡ most_tasks) (few : n ≡ min k.counts.tasks most_tasks) where
-  pub not_declared : n ≤ i → Unbounded ≡ bound_of k i
+  pub not_declared : n ≤ i → None ≡ bound_of k i
   unfolding bound_of
   not_declared h =
       let m = k.counts.tasks in
@@ -78,10 +78,10 @@ module _ (k : State) (i : ℕ) {n : ℕ} (long : length k.tasks ≡ most_tasks) 
     declared : ltb i k.counts.tasks ≡ true
     declared = lt-ltb i k.counts.tasks (omega (arith, min-le_left k.counts.tasks most_tasks))
 
-    pub not_for_one : not b ≡ true → Unbounded ≡ bound_of k i
+    pub not_for_one : not b ≡ true → None ≡ bound_of k i
     unfolding bound_of
     not_for_one e = rw (declared, ← said, not-true b e)
 
-    pub for_one : {s a : ℕ} → not b ≡ false → s ≡ waited_for k i → a ≡ ahead k s i → Within (record { semaphore = s; number = a + 1 }) ≡ bound_of k i
+    pub for_one : {s a : ℕ} → not b ≡ false → s ≡ waited_for k i → a ≡ ahead k s i → Some (record { semaphore = s; number = a + 1 }) ≡ bound_of k i
     unfolding bound_of
     for_one e f g = rw (declared, ← said, not-false b e, g, add-one, f)

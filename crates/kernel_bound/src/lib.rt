@@ -19,35 +19,21 @@ use wait_bound::{Bound, Releases};
 fn is_request(w: Wait) -> bool
     ensures { result ≡ same_kind w Request }
 {
-    match w {
-        Wait::Nothing => false,
-        Wait::Request => true,
-        Wait::Reserve => false,
-        Wait::Enter => false,
-    }
+    matches!(w, Wait::Request)
 }
 
 // Whether a task waits in a REQUEST whose list names s.
 fn is_queued(t: Task, s: u8) -> bool
     ensures { result ≡ queues s t }
 {
-    let wait = t.wait;
-    if !is_request(wait) {
-        return false;
-    }
-    let list = t.list;
-    let m = in_list(t.len);
-    is_named(&list[..m], s)
+    is_request(t.wait) && is_named(&t.list[..in_list(t.len)], s)
 }
 
 // Whether a task at this place is ahead of one with this urgency.
 fn is_ahead(t: Task, place: u8, s: u8, urgency: usize) -> bool
     ensures { result ≡ (queues s t && ltb (most_places * t.current + place) urgency) }
 {
-    if !is_queued(t, s) {
-        return false;
-    }
-    urgency_of(t.current, place) < urgency
+    is_queued(t, s) && urgency_of(t.current, place) < urgency
 }
 
 // How many tasks are ahead of j on semaphore s.
@@ -55,13 +41,12 @@ fn ahead(k: State, s: u8, j: usize) -> u8
     requires { j < most_tasks }
     ensures { (result ≡ ahead k s j) × (result ≤ most_tasks) }
 {
-    let counts = k.counts;
-    let n = in_table(counts.tasks);
+    let n = in_table(k.counts.tasks);
     let urgency = urgency_of(k.tasks[j].current, k.places[j]);
     let mut count = 0;
+    // By number: two arrays side by side, zipped, filtered and counted, say no more and give a usize.
     for i in 0..n {
-        let t = k.tasks[i];
-        if is_ahead(t, k.places[i], s, urgency) {
+        if is_ahead(k.tasks[i], k.places[i], s, urgency) {
             count += 1;
         }
     }
@@ -72,28 +57,21 @@ fn ahead(k: State, s: u8, j: usize) -> u8
 fn is_for_one(w: Wait, len: u8) -> bool
     ensures { result ≡ (same_kind w Request && eqb len 1) }
 {
-    if !is_request(w) {
-        return false;
-    }
-    len == 1
+    is_request(w) && len == 1
 }
 
 // By when a task is granted, of any kernel and for any task number.
 pub fn bound_of(k: State, task: u8) -> Bound
     ensures { result ≡ bound_of k task }
 {
-    let counts = k.counts;
     let j = task as usize;
-    if in_table(counts.tasks) <= j {
-        return Bound::Unbounded;
+    if in_table(k.counts.tasks) <= j {
+        return None;
     }
-    let t = k.tasks[j];
-    let wait = t.wait;
-    if !is_for_one(wait, t.len) {
-        return Bound::Unbounded;
+    if !is_for_one(k.tasks[j].wait, k.tasks[j].len) {
+        return None;
     }
-    let list = t.list;
-    let semaphore = list[0];
+    let semaphore = k.tasks[j].list[0];
     let number = ahead(k, semaphore, j) + 1;
-    Bound::Within(Releases { semaphore, number })
+    Some(Releases { semaphore, number })
 }

@@ -1,4 +1,5 @@
 -- What a call or declaration that no formal ground refuses has passed, and what it comes to.
+use Rattle.std.specs.Prelude.{None, Some}
 use mathlib.Core.Path.{◌≡◌, refl, sym, ap, ◌∙◌}
 use mathlib.Core.Bool.{true, false}
 use mathlib.Core.List.{List}
@@ -8,7 +9,7 @@ use lib.Dec.{leb, ltb}
 use borrow.Author.Tests.{leb-true, ltb-true}
 use Rattle.layout.specs.Marks.{form}
 use Rattle.layout.specs.declared.Call.{Call}
-use Rattle.calendar.specs.declared.Moment.{Moment}
+use Rattle.calendar.specs.Moments.{Moment}
 use Rattle.layout.specs.declared.Head.{Head}
 use Rattle.lists.specs.Lists.{distinct, every}
 use Rattle.record.specs.Reading.{call_with}
@@ -16,14 +17,12 @@ use Rattle.record.specs.Refusals.{named}
 use Rattle.lock.specs.declared.Wait.{Wait}
 use Rattle.facts.proofs.Bools.{by_bool, contra, both}
 use Rattle.machine.specs.declared.State.{State}
-use Rattle.machine.specs.declared.Running.{Running}
-use Rattle.machine.specs.declared.Running.TheVariants.{Idle, Runs}
+use Rattle.machine.specs.Running.{Running, runner}
 use Rattle.machine.specs.declared.Sort.{Sort}
 use Rattle.machine.specs.declared.Sort.TheVariants.{Declaration, OneTask, TheRunner, ListAsked, ListGiven, AnInterrupt, EveryTask}
 use Rattle.machine.specs.declared.Stepped.{Stepped}
 use Rattle.machine.specs.State.{most_tasks, task_at}
 use Rattle.machine.specs.NextEvent.{next_event}
-use Rattle.machine.specs.Running.{runner}
 use Rattle.machine.specs.Test.{valid}
 use Rattle.machine.specs.Sorts.{sort_of, declaring, declares, task_of, runner_at}
 use Rattle.machine.specs.Refusals.{list_declared, declared_by, formal_refusal, refusal_by, state_refusal}
@@ -86,8 +85,8 @@ module _ (day : ℕ) (k : State) (h : Head) (l : List ℕ) where
         few = places_fit k (sound day k v).waits
 
         at_runner : (r : Running) → Below k.counts.tasks r → runner_at r < most_tasks
-        at_runner Idle b = omega arith
-        at_runner (Runs i) b = omega (arith, few, b)
+        at_runner None b = omega arith
+        at_runner (Some i) b = omega (arith, few, b)
 
         go : (s : Sort) → s ≡ sort_of h.mark → task_of s h (runner k) < most_tasks
         go Declaration q = at_runner (runner k) (runner_below k)

@@ -1,4 +1,5 @@
 -- A change of the task that a call is about: what it comes to, and that the waits stay in order.
+use Rattle.std.specs.Prelude.{None, Some}
 use mathlib.Core.Path.{◌≡◌, refl, sym, ap, ◌∙◌}
 use mathlib.Core.Bool.{Bool, true, false, not, ◌||◌}
 use mathlib.Core.List.{List}
@@ -21,12 +22,10 @@ use Rattle.task.proofs.Waits.{NoNewWait}
 use Rattle.task.specs.declared.Marks.{Marks}
 use Rattle.machine.specs.declared.Change.{Change}
 use Rattle.machine.specs.declared.State.{State}
-use Rattle.machine.specs.declared.Running.{Running}
-use Rattle.machine.specs.declared.Running.TheVariants.{Idle, Runs}
+use Rattle.machine.specs.Running.{Running, runner, someone}
 use Rattle.machine.specs.declared.Sort.{Sort}
 use Rattle.machine.specs.declared.Sort.TheVariants.{Declaration, OneTask, TheRunner, ListAsked, ListGiven, AnInterrupt, EveryTask}
 use Rattle.machine.specs.State.{task_at, with_state}
-use Rattle.machine.specs.Running.{runner, someone}
 use Rattle.machine.specs.Granting.{could_be_granted}
 use Rattle.machine.specs.Sorts.{sort_of, declaring, declares, needs_runner, task_of, runner_at}
 use Rattle.machine.specs.Work.{changed}
@@ -46,7 +45,7 @@ use Rattle.kernel_test.specs.Looks.{waits_ok}
 use Rattle.kernel_finish.specs.Ends.{as_before, work_here, next_filed}
 use Rattle.kernel_finish.proofs.EndLaws.{next_of_work}
 use Rattle.machine.specs.NextEvent.{next_among}
-use Rattle.calendar.specs.declared.Moment.{Moment}
+use Rattle.calendar.specs.Moments.{Moment}
 use Rattle.kernel_test.proofs.AskLaws.{wait_begins}
 use Rattle.kernel_test.proofs.SoundLaws.{wait_stays, wait_at, waits_changed, sound}
 use Rattle.kernel_values.specs.Sorts.{about_one}
@@ -75,10 +74,6 @@ undeclaring (ListAsked w b) e = refl
 undeclaring (ListGiven w) e = refl
 undeclaring AnInterrupt e = refl
 undeclaring EveryTask e = refl
-
--- What a list gives back can be given back.
-pub given_back : (m : Mark) (c : Call) (l : Locks) {s : Sort} {w : Wait} → s ≡ sort_of m → s ≡ ListGiven w → Returnable s l c → every (returnable w l) (named c) ≡ true
-given_back m c l {w = w} q e b = or_then (waiting w) _ (rw e at b) (given_waits m (sym q ∙ e))
 
 abbrev pub with_change : State → ℕ → Change → State
 with_change k i d = with_state (set k.tasks i d.task) d.locks k.enabled k
@@ -117,8 +112,8 @@ module _ (day : ℕ) (k : State) (h : Head) (l : List ℕ) (v : valid day k ≡ 
   at_runner P g = go (runner k) (runner_below k)
     where
       go : (r : Running) → Below k.counts.tasks r → someone r ≡ true → P (runner_at r)
-      go Idle b e = contra e refl
-      go (Runs i) b e = g i b
+      go None b e = contra e refl
+      go (Some i) b e = g i b
 
   waits_kept : (s : Sort) → sort_of h.mark ≡ s → about_one s ≡ true → (not (needs_runner s) || someone (runner k)) ≡ true
       → Waits (does s (task_of s h (runner k))).task

@@ -9,6 +9,7 @@ use schedule::{Alarm, Schedule};
 use task::continuations::or_else;
 use task::{Task, Turn};
 
+#[tactic(auto, unfolding(machine::specs::Activation::end_of))]
 fn end_of(endkind: u8, t: u32) -> End
     ensures { result ≡ end_of endkind t }
 {
@@ -28,6 +29,7 @@ fn alarm_by(clock: u32, n: Instant, h: Head) -> Alarm
 }
 
 // The schedule that an activation at n gives a task, with the priority p.
+#[tactic(auto, unfolding(machine::specs::Activation::schedule_of))]
 fn schedule_of(clock: u32, n: Instant, h: Head, p: u8) -> Schedule
     requires { n.0 ≤ last_instant }
     ensures { result ≡ schedule_of day_length clock n h p }
@@ -38,6 +40,7 @@ fn schedule_of(clock: u32, n: Instant, h: Head, p: u8) -> Schedule
 }
 
 // Kind 0 is due for the task; another kind replaces its schedule.
+#[tactic(auto, unfolding(machine::specs::Activation::activate_by))]
 pub(crate) fn activate_by(t: Task, clock: u32, n: Instant, h: Head) -> Turn
     requires { n.0 ≤ last_instant }
     ensures { result ≡ activate_by day_length clock n h t }
@@ -51,6 +54,7 @@ pub(crate) fn activate_by(t: Task, clock: u32, n: Instant, h: Head) -> Turn
 }
 
 // CONTINUE: kind 0 unholds the task; another kind replaces its continuation.
+#[tactic(auto, unfolding(machine::specs::Activation::continue_by))]
 pub(crate) fn continue_by(t: Task, clock: u32, n: Instant, h: Head) -> Turn
     requires { n.0 ≤ last_instant }
     ensures { result ≡ continue_by day_length clock n h t }
@@ -62,6 +66,7 @@ pub(crate) fn continue_by(t: Task, clock: u32, n: Instant, h: Head) -> Turn
 }
 
 // RESUME: kind 0 delays the running task; another kind suspends it and replaces its continuation.
+#[tactic(auto, unfolding(machine::specs::Activation::resume_by))]
 pub(crate) fn resume_by(t: Task, clock: u32, n: Instant, h: Head) -> Turn
     requires { n.0 ≤ last_instant }
     ensures { result ≡ resume_by day_length clock n h t }

@@ -20,36 +20,35 @@ use kernel_granting::{Writers, could_be_granted};
 use layout::{Head, Mark, Numbers};
 use lock::{Locks, Wait, Way};
 use machine::{Change, Sort};
-use task::{Marks, Task, Turn};
+use task::{Marks, NO_MARKS, Task, Turn};
 
 fn by_turn(locks: Locks, u: Turn) -> Change
     ensures { result ≡ by_turn locks u }
 {
-    let task = u.task;
-    let marks = u.marks;
-    Change { task, locks, marks }
+    Change {
+        task: u.task,
+        locks,
+        marks: u.marks,
+    }
 }
 
 fn by_locks(task: Task, locks: Locks, granted: bool) -> Change
     ensures { result ≡ by_locks task locks granted }
 {
     let marks = Marks {
-        due: false,
-        started: false,
-        ended: false,
-        lost: false,
         granted,
+        ..NO_MARKS
     };
     Change { task, locks, marks }
 }
 
 // The turn of the task that AC, TE, SU, PR or CO names.
+#[tactic(auto, unfolding(machine::specs::Calls::named_turn))]
 fn named_turn(t: Task, clock: u32, now: Instant, h: Head) -> Turn
     requires { now.0 ≤ last_instant }
     ensures { result ≡ named_turn day_length clock now h.mark h t }
 {
-    let mark = h.mark;
-    match mark {
+    match h.mark {
         Mark::AC => activate_by(t, clock, now, h),
         Mark::TE => t.end(),
         Mark::SU => t.suspend(),
@@ -59,18 +58,19 @@ fn named_turn(t: Task, clock: u32, now: Instant, h: Head) -> Turn
 }
 
 // The running task's turn at RE or EN.
+#[tactic(auto, unfolding(machine::specs::Calls::runner_turn))]
 fn runner_turn(t: Task, clock: u32, now: Instant, h: Head) -> Turn
     requires { now.0 ≤ last_instant }
     ensures { result ≡ runner_turn day_length clock now h.mark h t }
 {
-    let mark = h.mark;
-    match mark {
+    match h.mark {
         Mark::RE => resume_by(t, clock, now, h),
         _ => t.end(),
     }
 }
 
 // The running task asks for a list: it is granted whole, or the task waits; a TRY doesn't wait.
+#[tactic(auto, unfolding(machine::specs::Calls::ask_for))]
 fn ask_for(
     w: Wait,
     waits: bool,
@@ -84,9 +84,9 @@ fn ask_for(
     requires for_some { ForSome w writers }
     ensures { (n : ℕ) (ts : List Task) → TellsFor w n ts writers → result ≡ ask_for n ts w waits (call_with h list) t locks }
 {
-    let n = h.len as usize;
-    if could_be_granted(locks, writers, t.current, w, n, list) {
-        return by_locks(t, locks.move_all(Way::Take, w, n, list), true);
+    let asked = &list[..h.len as usize];
+    if could_be_granted(&locks, &writers, t.current, w, asked) {
+        return by_locks(t, locks.move_all(Way::Take, w, asked), true);
     }
     if !waits {
         return by_locks(t, locks, false);
@@ -95,6 +95,7 @@ fn ask_for(
 }
 
 // What an accepted call of a sort does to the task that it is about and to the locks, at instant now.
+#[tactic(auto, unfolding(machine::specs::Calls::change_of))]
 pub fn change_of(
     sort: Sort,
     h: Head,
@@ -112,14 +113,15 @@ pub fn change_of(
     requires for_some { ForSome (asked_kind sort) writers }
     ensures { (n : ℕ) (ts : List Task) → TellsFor (asked_kind sort) n ts writers → result ≡ change_of n ts day_length sort (call_with h list) clock now t locks }
 {
-    let n = h.len as usize;
     match sort {
         Sort::OneTask => by_turn(locks, named_turn(t, clock, now, h)),
         Sort::TheRunner => by_turn(locks, runner_turn(t, clock, now, h)),
         Sort::ListAsked(w, waits) => ask_for(w, waits, h, list, t, locks, writers),
-        Sort::ListGiven(w) => by_locks(t, locks.move_all(Way::Give, w, n, list), false),
-        Sort::Declaration => by_locks(t, locks, false),
-        Sort::AnInterrupt => by_locks(t, locks, false),
-        Sort::EveryTask => by_locks(t, locks, false),
+        Sort::ListGiven(w) => by_locks(
+            t,
+            locks.move_all(Way::Give, w, &list[..h.len as usize]),
+            false,
+        ),
+        Sort::Declaration | Sort::AnInterrupt | Sort::EveryTask => by_locks(t, locks, false),
     }
 }

@@ -3,14 +3,15 @@ ghost use Rattle.std.specs.Prelude.{◌≡◌};
 ghost use Rattle.lock.specs.Locks.{empty_bolt};
 ghost use Rattle.machine.specs.State.{fresh_task, nothing};
 
-use calendar::{Instant, Moment};
+use calendar::Instant;
 use layout::NO_LIST;
 use lock::{Bolt, Locks, MOST_LOCKS, Wait};
-use machine::{Counts, MOST_INTERRUPTS, MOST_TASKS, OnFile, Running, State};
+use machine::{Counts, MOST_INTERRUPTS, MOST_TASKS, OnFile, State};
 use schedule::{Alarm, Schedule};
-use task::{Hold, Kept, Task};
+use task::{Hold, Task};
 
 // A task just declared: not alive, at its own priority, without a schedule or a continuation.
+#[tactic(auto, unfolding(machine::specs::State::fresh_task))]
 pub(crate) fn fresh_task(p: u8) -> Task
     ensures { result ≡ fresh_task p }
 {
@@ -18,7 +19,7 @@ pub(crate) fn fresh_task(p: u8) -> Task
         declared: p,
         current: p,
         alive: false,
-        kept: Kept::Empty,
+        kept: None,
         wait: Wait::Nothing,
         len: 0,
         list: NO_LIST,
@@ -40,34 +41,30 @@ pub(crate) fn empty_bolt() -> Bolt
 }
 
 // Nothing is declared.
+#[tactic(auto, unfolding(machine::specs::State::nothing))]
 pub fn fresh() -> State
     ensures { result ≡ nothing }
 {
-    let bolt = empty_bolt();
-    let task = fresh_task(0);
-    let locks = Locks {
-        semaphores: [0; MOST_LOCKS as usize],
-        bolts: [bolt; MOST_LOCKS as usize],
-    };
-    let counts = Counts {
-        tasks: 0,
-        semaphores: 0,
-        bolts: 0,
-        interrupts: 0,
-    };
-    let file = OnFile {
-        running: Running::Idle,
-        next: Moment::Never,
-    };
     State {
-        tasks: [task; MOST_TASKS as usize],
+        tasks: [fresh_task(0); MOST_TASKS as usize],
         places: [0; MOST_TASKS as usize],
-        locks,
+        locks: Locks {
+            semaphores: [0; MOST_LOCKS as usize],
+            bolts: [empty_bolt(); MOST_LOCKS as usize],
+        },
         enabled: [false; MOST_INTERRUPTS as usize],
-        counts,
+        counts: Counts {
+            tasks: 0,
+            semaphores: 0,
+            bolts: 0,
+            interrupts: 0,
+        },
         clock: 0,
         now: Instant(0),
         begun: false,
-        file,
+        file: OnFile {
+            running: None,
+            next: None,
+        },
     }
 }

@@ -15,78 +15,66 @@ ghost use Rattle.machine.specs.Step.{declared, answered};
 use crate::fresh::{empty_bolt, fresh_task};
 use kernel_values::answers::answered;
 use layout::{Head, Mark};
-use machine::{Counts, OnFile, State, Stepped};
+use machine::{OnFile, State, Stepped};
 
-pub(crate) fn add_task(k: State, p: u8) -> State
+#[tactic(auto, unfolding(machine::specs::Calls::add_task))]
+pub(crate) fn add_task(mut k: State, p: u8) -> State
     requires { k.counts.tasks < most_tasks }
     ensures { result ≡ add_task p k }
 {
-    let mut next = k;
-    let counts = k.counts;
-    let n = counts.tasks;
-    next.tasks[n as usize] = fresh_task(p);
-    next.places[n as usize] = n;
-    next.counts.tasks = n + 1;
-    next
+    let n = k.counts.tasks;
+    k.tasks[n as usize] = fresh_task(p);
+    k.places[n as usize] = n;
+    k.counts.tasks = n + 1;
+    k
 }
 
-pub(crate) fn add_semaphore(k: State, v: u16) -> State
+#[tactic(auto, unfolding(machine::specs::Calls::add_semaphore))]
+pub(crate) fn add_semaphore(mut k: State, v: u16) -> State
     requires { k.counts.semaphores < most_semaphores }
     ensures { result ≡ add_semaphore v k }
 {
-    let old = k.counts;
-    let n = old.semaphores;
-    let mut locks = k.locks;
-    locks.semaphores[n as usize] = v;
-    let counts = Counts {
-        semaphores: n + 1,
-        ..old
-    };
-    State { locks, counts, ..k }
+    let n = k.counts.semaphores;
+    k.locks.semaphores[n as usize] = v;
+    k.counts.semaphores = n + 1;
+    k
 }
 
-pub(crate) fn add_bolt(k: State) -> State
+#[tactic(auto, unfolding(machine::specs::Calls::add_bolt))]
+pub(crate) fn add_bolt(mut k: State) -> State
     requires { k.counts.bolts < most_bolts }
     ensures { result ≡ add_bolt k }
 {
-    let old = k.counts;
-    let n = old.bolts;
-    let mut locks = k.locks;
-    locks.bolts[n as usize] = empty_bolt();
-    let counts = Counts {
-        bolts: n + 1,
-        ..old
-    };
-    State { locks, counts, ..k }
+    let n = k.counts.bolts;
+    k.locks.bolts[n as usize] = empty_bolt();
+    k.counts.bolts = n + 1;
+    k
 }
 
-pub(crate) fn add_interrupt(k: State) -> State
+#[tactic(auto, unfolding(machine::specs::Calls::add_interrupt))]
+pub(crate) fn add_interrupt(mut k: State) -> State
     requires { k.counts.interrupts < most_interrupts }
     ensures { result ≡ add_interrupt k }
 {
-    let mut next = k;
-    let counts = k.counts;
-    let n = counts.interrupts;
-    next.enabled[n as usize] = false;
-    next.counts.interrupts = n + 1;
-    next
+    let n = k.counts.interrupts;
+    k.enabled[n as usize] = false;
+    k.counts.interrupts = n + 1;
+    k
 }
 
-pub(crate) fn set_clock(k: State, t: u32) -> State
+pub(crate) fn set_clock(mut k: State, t: u32) -> State
     ensures { result ≡ with_clock t k }
 {
-    let mut next = k;
-    next.clock = t;
-    next
+    k.clock = t;
+    k
 }
 
 // A declaration leaves this kernel with what was on file: its task runs on.
 fn with_file(mut k: State, file: OnFile) -> Stepped
     ensures { result ≡ answered (with_file file k) 0 file.running }
 {
-    let r = file.running;
     k.file = file;
-    answered(k, 0, r)
+    answered(k, 0, file.running)
 }
 
 // An accepted declaration; the answer's sets are empty.
@@ -95,9 +83,8 @@ pub fn declared(k: State, h: Head) -> Stepped
     requires by_index { (l : List ℕ) × (formal_refusal day_length k.counts k.begun (call_with h l) ≡ 0) }
     ensures { (l : List ℕ) → result ≡ declared k (declaration h.mark (call_with h l) k) }
 {
-    let mark = h.mark;
     let file = k.file;
-    match mark {
+    match h.mark {
         Mark::DT => with_file(add_task(k, h.priority), file),
         Mark::DS => with_file(add_semaphore(k, (h.first % 65536) as u16), file),
         Mark::DB => with_file(add_bolt(k), file),

@@ -1,4 +1,5 @@
 -- How a call ends, with or without serving.
+use Rattle.std.specs.Prelude.{None}
 use mathlib.Core.Path.{◌≡◌, refl, sym, ◌∙◌}
 use mathlib.Core.Bool.{Bool, true, false, not, ◌||◌}
 use mathlib.Core.List.{List}
@@ -6,7 +7,7 @@ use Prim.Native.Nat.{ℕ, ◌≤◌, ◌<◌}
 use native.Mathlib.Omega.{arith}
 use lib.Bits.{bit_or}
 use lib.ListN.{length}
-use Rattle.calendar.specs.declared.Moment.{Moment}
+use Rattle.calendar.specs.Moments.{Moment}
 use Rattle.task.specs.State.{runnable}
 use Rattle.task.specs.declared.Task.{Task}
 use Rattle.machine.specs.Places.{event, moved}
@@ -16,7 +17,6 @@ use Rattle.machine.specs.Sets.{holds, with_granted}
 use Rattle.machine.specs.State.{most_tasks, with_places, with_file, begun_at}
 use Rattle.machine.specs.Step.{finish}
 use Rattle.machine.specs.Test.{places_ok}
-use Rattle.machine.specs.declared.Running.TheVariants.{Idle}
 use Rattle.machine.specs.declared.Sets.{Sets}
 use Rattle.machine.specs.declared.State.{State}
 use Rattle.machine.specs.declared.Stepped.{Stepped}
@@ -62,7 +62,7 @@ pub record Second (k : State) (m : Sets) (turned : Standing) (now : State) (gran
 
 -- Nobody is to be served.
 abbrev pub Unserved : State → Type 0
-Unserved k = next_served k.counts.tasks k.places (served k 0) ≡ Idle
+Unserved k = next_served k.counts.tasks k.places (served k 0) ≡ None
 
 -- Where a call stands once nobody is to be served: the kernel, the grants, who leads, and how the tasks stood and stand.
 pub record Settled (k : State) (m : Sets) (ts : List Task) (now : State) (granted : ℕ) (lead : Lead) (before after : Standing) : Type 0 where

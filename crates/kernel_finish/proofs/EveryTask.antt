@@ -1,4 +1,5 @@
 -- The turns of all tasks, one after the other: what the tables and the sets are with the first i turns made.
+use Rattle.std.specs.Prelude.{is_some, None}
 use mathlib.Core.Path.{◌≡◌, refl, sym, ◌∙◌, ap}
 use mathlib.Core.Bool.{Bool, true, false, not, ◌&&◌}
 use mathlib.Core.List.{List, [], ◌∷◌, ◌++◌, map}
@@ -12,10 +13,10 @@ use lib.Seq.{length-take-le, set-get_or}
 use lib.Dec.{eqb}
 use borrow.Author.Tests.{eqb-true, not-false}
 use Rattle.calendar.specs.declared.Instant.{Instant}
-use Rattle.calendar.specs.declared.Moment.{Moment}
+use Rattle.calendar.specs.Moments.{Moment}
 use Rattle.lock.specs.Locks.{bit, waiting}
 use Rattle.facts.proofs.Bools.{and_both, by_bool, by_eq, contra}
-use Rattle.task.specs.State.{no_task, unheld, is_kept}
+use Rattle.task.specs.State.{no_task, unheld}
 use Rattle.task.specs.Turns.{unmarked, tick_turn, trigger_turn}
 use Rattle.task.specs.declared.Task.{Task}
 use Rattle.task.specs.declared.Turn.{Turn}
@@ -24,7 +25,7 @@ use Rattle.task.proofs.Waits.{SameWait, NoNewWait, no_wait_tick, tick_keeps_wait
 use Rattle.machine.specs.Sets.{set_of, mark, each_set, no_sets}
 use Rattle.machine.specs.State.{most_tasks, task_at, enabled_at, with_state, begun_at, with_places, with_file}
 use Rattle.machine.specs.Work.{only_enabled, turns, every_turn}
-use Rattle.machine.specs.Running.{running_of}
+use Rattle.machine.specs.Running.{running_of, Running}
 use Rattle.machine.specs.NextEvent.{next_among}
 use Rattle.machine.specs.Serving.{next_served}
 use Rattle.machine.specs.Test.{valid}
@@ -40,8 +41,6 @@ use Rattle.machine.proofs.Passed.{parts, tested}
 use Rattle.machine.proofs.Works.{turn_at}
 use Rattle.machine.proofs.SetLaws.{members_each, each_same, set_of_lt}
 use Rattle.machine.specs.declared.Sets.{Sets}
-use Rattle.machine.specs.declared.Running.{Running}
-use Rattle.machine.specs.declared.Running.TheVariants.{Idle}
 use Rattle.machine.specs.Places.{event, moved}
 use Rattle.kernel_sets.specs.Puts.{put_if, put_marks}
 use Rattle.kernel_test.proofs.TestLaws.{wait_of}
@@ -229,7 +228,7 @@ pub tick_keeps : (day : ℕ) (n : Counts) (m : Instant) (t : Task) → TaskOk da
 tick_keeps day n m t h =
     record {
       begins = no_wait_tick t m;
-      ends = λ w. tick_keeps_wait m t (by_bool t.alive (λ e. e) (λ e. contra w (rest_facts t.alive (is_kept t.kept) (waiting t.wait) (unheld t.hold) h.rests e).1));
+      ends = λ w. tick_keeps_wait m t (by_bool t.alive (λ e. e) (λ e. contra w (rest_facts t.alive (is_some t.kept) (waiting t.wait) (unheld t.hold) h.rests e).1));
     }
 
 alike : (t u : Task) → KeepsWait t u → Unaltered t u → WaitsAlike t u
@@ -242,7 +241,7 @@ alike t u k s =
 -- They leave nobody to serve, where nobody is altered.
 pub every_idle : (day : ℕ) (k : State) → valid day k ≡ true → length k.tasks ≡ most_tasks → (n : Instant) (f : Task → Turn)
     → ((t : Task) → TaskOk day k.counts t → KeepsWait t (f t).task) → Steady f k.tasks k.counts.tasks
-    → next_served k.counts.tasks k.places (served (every_done k n f) 0) ≡ Idle
+    → next_served k.counts.tasks k.places (served (every_done k n f) 0) ≡ None
 unfolding every_turn
 every_idle day k v long n f keeps steady =
     let c = k.counts.tasks in
@@ -259,7 +258,7 @@ every_event k n f = event k.tasks (every_turn k n f).tasks (every_turn k n f).se
 
 -- The call ends at instant n where nobody is to be served once every task has had its turn.
 pub every_unserved : (k : State) (n : Instant) (f : Task → Turn) {next now : State} {s : Sets} {ps : List ℕ} {r : Running} {m : Moment}
-    → next ≡ every_done k n f → s ≡ (every_turn k n f).sets → next_served k.counts.tasks k.places (served (every_done k n f) 0) ≡ Idle
+    → next ≡ every_done k n f → s ≡ (every_turn k n f).sets → next_served k.counts.tasks k.places (served (every_done k n f) 0) ≡ None
     → ps ≡ moved k.counts.tasks (every_event k n f) k.places → r ≡ running_of k.counts.tasks ps (every_turn k n f).tasks
     → now ≡ with_places ps next → m ≡ next_among n k.counts.tasks next.tasks
     → record { state = begun_at n (with_file (record { running = r; next = m }) now); answer = answer_of 0 r s } ≡ finish k (every_turn k n f)

@@ -1,6 +1,6 @@
 -- Names for contracts: how a call ends.
 use Rattle.std.specs.Prelude.{List}
-use Rattle.calendar.specs.declared.Moment.{Moment}
+use Rattle.calendar.specs.Moments.{Moment}
 use Rattle.task.specs.declared.Task.{Task}
 use Rattle.machine.specs.State.{with_state, with_file}
 use Rattle.machine.specs.Work.{Work}

@@ -18,7 +18,6 @@ use kernel_sets::{Standing, is_in, nobody_turned, put_if};
 use kernel_urgency::scan::{can_run, no_lead, place_if};
 use kernel_values::answers::{answer_of, begun_at, no_sets};
 use kernel_values::counts::in_table;
-use kernel_values::running::is_someone;
 use lock::is_waiting;
 use machine::{OnFile, Sets, State, Stepped};
 
@@ -31,8 +30,8 @@ pub fn finished(mut k: State, m: Sets, turned: Standing, next: Moment) -> Steppe
     requires places_value { places_ok k.counts.tasks k.places ≡ true }
     ensures { (ts : List Task) → Turned k.counts.tasks ts k.tasks turned → result ≡ next_filed next (finish (as_before ts k) (work_here k m)) }
 {
-    let counts = k.counts;
-    let n = in_table(counts.tasks);
+    let tasks = k.counts.tasks;
+    let n = in_table(tasks);
     let mut granted = m.granted;
     let mut late = turned.runnable | m.started;
     let mut served = false;
@@ -44,11 +43,10 @@ pub fn finished(mut k: State, m: Sets, turned: Standing, next: Moment) -> Steppe
         lead = no_lead();
         let mut runnable = 0;
         let mut waiting = 0;
+        // By number, since it names a task in places, sets and lead alike.
         for i in 0..n {
-            let t = k.tasks[i];
-            let wait = t.wait;
-            let hold = t.hold;
-            let runs = can_run(k.tasks[i].alive, wait, hold);
+            let wait = k.tasks[i].wait;
+            let runs = can_run(k.tasks[i].alive, wait, k.tasks[i].hold);
             runnable = put_if(i, runs, runnable);
             waiting = put_if(i, is_waiting(wait), waiting);
             lead = lead.against_if(
@@ -67,7 +65,7 @@ pub fn finished(mut k: State, m: Sets, turned: Standing, next: Moment) -> Steppe
         if waiting == 0 {
             break;
         }
-        if !is_someone(next_served(k)) {
+        if next_served(k).is_none() {
             break;
         }
         let s = serve(k, granted);
@@ -76,11 +74,10 @@ pub fn finished(mut k: State, m: Sets, turned: Standing, next: Moment) -> Steppe
         late = late_of(before, m.started);
         served = true;
     }
-    let places = moved(k.places, counts.tasks, events_of(before, after, m.started));
-    k.places = places;
+    let events = events_of(before, after, m.started);
+    k.places = moved(k.places, tasks, events);
     let running = lead.who();
-    let file = OnFile { running, next };
-    k.file = file;
+    k.file = OnFile { running, next };
     Stepped {
         state: begun_at(k, k.now),
         answer: answer_of(0, running, Sets { granted, ..m }),
@@ -94,7 +91,5 @@ pub fn done(k: State) -> Stepped
     requires places_value { places_ok k.counts.tasks k.places ≡ true }
     ensures { result ≡ finish k (only_enabled k k.enabled) }
 {
-    let file = k.file;
-    let next = file.next;
-    finished(k, no_sets(), nobody_turned(), next)
+    finished(k, no_sets(), nobody_turned(), k.file.next)
 }

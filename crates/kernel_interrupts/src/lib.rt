@@ -34,25 +34,24 @@ fn trigger_all(mut k: State, interrupt: u8) -> Working
     requires k_le_last_instant { k.now.0 ≤ last_instant }
     ensures { (result.state ≡ with_state (every_turn k k.now (trigger_turn day_length k.clock k.now interrupt)).tasks k.locks k.enabled k) × (result.sets ≡ (every_turn k k.now (trigger_turn day_length k.clock k.now interrupt)).sets) × Turned k.counts.tasks k.tasks result.state.tasks result.turned }
 {
-    let counts = k.counts;
-    let most = counts.tasks as usize;
+    let most = k.counts.tasks as usize;
     let n = k.now;
     let clock = k.clock;
-    let mut s = no_sets();
+    let mut sets = no_sets();
     let mut turned = nobody_turned();
+    // By number, since it names a task in its table and in the sets.
     for i in 0..most {
         let t = k.tasks[i];
         if t.listens_to(interrupt) {
             let u = t.trigger(clock, n, interrupt);
-            let after = u.task;
-            k.tasks[i] = after;
-            s = put_marks(i, u.marks, s);
-            turned = turned.with_turn(i, t, after);
+            k.tasks[i] = u.task;
+            sets = put_marks(i, u.marks, sets);
+            turned = turned.with_turn(i, t, u.task);
         }
     }
     Working {
         state: k,
-        sets: s,
+        sets,
         turned,
     }
 }
@@ -63,12 +62,10 @@ fn trigger_in(k: State, i: u8) -> Stepped
     requires i_lt_interrupts { i < k.counts.interrupts }
     ensures { result ≡ finish k (trigger_in day_length k i) }
 {
-    let at = i as usize;
-    if k.enabled[at] {
+    if k.enabled[i as usize] {
         let w = trigger_all(k, i);
-        let s = w.sets;
         let next = next_event(w.state, k.now);
-        return finished(w.state, s, w.turned, next);
+        return finished(w.state, w.sets, w.turned, next);
     }
     done(k)
 }
@@ -86,14 +83,14 @@ fn enable_in(mut k: State, i: usize, b: bool) -> Stepped
 }
 
 // TRIGGER, ENABLE and DISABLE.
+#[tactic(auto, unfolding(machine::specs::Calls::interrupt_by))]
 pub fn interrupted(k: State, h: Head) -> Stepped
     requires next_value { k.file.next ≡ next_event k }
     requires k_value { valid day_length k ≡ true }
     requires number_lt_interrupts { h.number < k.counts.interrupts }
     ensures { result ≡ finish k (interrupt_by day_length h.mark k h.number) }
 {
-    let mark = h.mark;
-    match mark {
+    match h.mark {
         Mark::TG => trigger_in(k, h.number),
         Mark::EI => enable_in(k, h.number as usize, true),
         _ => enable_in(k, h.number as usize, false),

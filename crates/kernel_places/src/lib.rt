@@ -21,10 +21,9 @@ fn to_end(mut places: Places, n: u8, i: usize) -> Places
     ensures { result ≡ to_end n i places }
 {
     let p = places[i];
-    for j in 0..(MOST_TASKS as usize) {
-        let q = places[j];
-        if p < q {
-            places[j] = q - 1;
+    for q in &mut places {
+        if p < *q {
+            *q -= 1;
         }
     }
     places[i] = n - 1;
@@ -32,21 +31,21 @@ fn to_end(mut places: Places, n: u8, i: usize) -> Places
 }
 
 // The tasks with an event go to the end, in order of number. Mostly there is none.
-pub fn moved(places: Places, n: u8, events: u32) -> Places
+pub fn moved(mut places: Places, n: u8, events: u32) -> Places
     requires { n ≤ most_tasks }
     ensures { result ≡ moved n (λ i. holds i events) places }
 {
-    let mut ps = places;
     if events == 0 {
-        return ps;
+        return places;
     }
-    for i in 0..(n as usize) {
+    for i in 0..n as usize {
         if is_in(i, events) {
-            let next = to_end(ps, n, i);
-            ps = next;
+            // By a name: no proof is made yet of a call whose result is laid in the array that it was given.
+            let next = to_end(places, n, i);
+            places = next;
         }
     }
-    ps
+    places
 }
 
 // Of the runnable tasks those that have an event: they weren't runnable before, or were started.

@@ -1,21 +1,24 @@
 -- What the state refuses, by the sort of the mark.
-use mathlib.Core.Path.{◌≡◌, refl}
+use Rattle.std.specs.Prelude.{Result, Err, Ok, cond}
+use mathlib.Core.Path.{◌≡◌, refl, sym, ap}
 use mathlib.Core.Bool.{Bool, true, false}
 use Prim.Native.Nat.{ℕ}
 use Rattle.calendar.specs.declared.Instant.{Instant}
-use Rattle.calendar.specs.declared.Moment.{Moment}
+use Rattle.calendar.specs.Moments.{Moment}
 use Rattle.layout.specs.Marks.{is}
 use Rattle.layout.specs.declared.Call.{Call}
 use Rattle.layout.specs.declared.Mark.{Mark}
 use Rattle.layout.specs.declared.Mark.TheVariants.{AC, TE, SU, CO, TI, SL}
 use Rattle.record.specs.Refusals.{named, unless}
+use Rattle.record.specs.declared.refusals.Refusal.{Refusal}
+use Rattle.record.specs.Numbers.{number, refused_with}
+use Rattle.record.proofs.NumberLaws.{number_some}
 use Rattle.lock.specs.Locks.{returnable}
 use Rattle.lock.specs.declared.Locks.{Locks}
 use Rattle.task.specs.declared.Task.{Task}
-use Rattle.machine.specs.declared.Running.{Running}
+use Rattle.machine.specs.Running.{Running, someone}
 use Rattle.machine.specs.declared.Sort.{Sort}
 use Rattle.machine.specs.declared.Sort.TheVariants.{Declaration, OneTask, TheRunner, ListAsked, ListGiven, AnInterrupt, EveryTask}
-use Rattle.machine.specs.Running.{someone}
 use Rattle.machine.specs.Sorts.{sort_of, naming}
 use Rattle.machine.specs.Refusals.{unreturnable, refusal_by}
 use Rattle.machine.proofs.Sorts.{other_mark, given_waits}
@@ -65,3 +68,23 @@ module _ (c : Call) (r : Running) (t : Task) (l : Locks) (n : Instant) (e : Mome
       go (ListGiven w) q = let u = unnamed (rw q) in rw (q, u.0, u.1, u.2, u.3, unticked (rw q), given_waits m q)
       go AnInterrupt q = let u = unnamed (rw q) in rw (q, u.0, u.1, u.2, u.3, unticked (rw q))
       go EveryTask q = let u = unnamed (rw q) in rw (q, u.0, u.1, u.2, u.3)
+
+-- ---- what a test gives
+
+abbrev Outcome : Type 0
+Outcome = Result Unit Refusal
+
+abbrev tested : Bool → Refusal → Outcome
+tested b x = cond b (Ok tt) (Err x)
+
+pub told : (b : Bool) (x : Refusal) {r : Outcome} → r ≡ tested b x → refused_with r ≡ unless b (number x) 0
+told true x e = ap refused_with e
+told false x e = ap refused_with e
+
+pub failed : (b : Bool) (x y : Refusal) → ◌≡◌ {A = Outcome} (Err y) (tested b x) → (n : ℕ) → number y ≡ unless b (number x) n
+failed true x y e n = absurd (number_some y (ap refused_with e))
+failed false x y e n = ap refused_with e
+
+pub passed : (b : Bool) (x : Refusal) → ◌≡◌ {A = Outcome} (Ok tt) (tested b x) → b ≡ true
+passed true x e = refl
+passed false x e = absurd (number_some x (sym (ap refused_with e)))

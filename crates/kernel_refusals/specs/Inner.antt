@@ -1,9 +1,8 @@
 -- Names for the contracts of inner functions. The machine doesn't use them.
 use Rattle.std.specs.Prelude.{◌≡◌, true, not, ◌&&◌, ◌||◌, ℕ, ◌≤◌, ltb, eqb}
 use Rattle.calendar.specs.Limits.{last_instant}
-use Rattle.calendar.specs.Moments.{comes_by}
+use Rattle.calendar.specs.Moments.{comes_by, Moment}
 use Rattle.calendar.specs.declared.Instant.{Instant}
-use Rattle.calendar.specs.declared.Moment.{Moment}
 use Rattle.layout.specs.Marks.{is}
 use Rattle.layout.specs.declared.Call.{Call}
 use Rattle.layout.specs.declared.Head.{Head}

@@ -1,4 +1,5 @@
 -- Serving turn by turn.
+use Rattle.std.specs.Prelude.{None, Some}
 use mathlib.Core.Path.{◌≡◌, refl, sym, ◌∙◌, ap, ap₂}
 use mathlib.Core.Bool.{true, false}
 use mathlib.Core.List.{List}
@@ -10,28 +11,27 @@ use Rattle.machine.specs.Granting.{servable}
 use Rattle.machine.specs.Serving.{Served, next_served, grant_to, serve}
 use Rattle.machine.specs.declared.Counts.{Counts}
 use Rattle.machine.specs.declared.State.{State}
-use Rattle.machine.specs.declared.Running.{Running}
-use Rattle.machine.specs.declared.Running.TheVariants.{Idle, Runs}
+use Rattle.machine.specs.Running.{Running}
 use Rattle.machine.proofs.Below.{most_urgent_at, most_urgent_none}
 use Rattle.kernel_test.specs.Looks.{waits_ok}
 use Rattle.kernel_serving.specs.Served.{served, with_served, served_of}
 use Rattle.kernel_serving.proofs.WaitLaws.{servable_idle, waits_kept}
 
-pub next_right : (n : ℕ) (ps : List ℕ) (p : Served) (j : ℕ) → next_served n ps p ≡ Runs j → (j < n) × (servable n p.tasks p.locks j ≡ true)
+pub next_right : (n : ℕ) (ps : List ℕ) (p : Served) (j : ℕ) → next_served n ps p ≡ Some j → (j < n) × (servable n p.tasks p.locks j ≡ true)
 next_right n ps p j e = most_urgent_at n (servable n p.tasks p.locks) _ j e
 
-serve_idle : (n : ℕ) (ps : List ℕ) (turns : ℕ) (p : Served) → next_served n ps p ≡ Idle → serve n ps turns p ≡ p
+serve_idle : (n : ℕ) (ps : List ℕ) (turns : ℕ) (p : Served) → next_served n ps p ≡ None → serve n ps turns p ≡ p
 unfolding serve
 serve_idle n ps zero p e = refl
 serve_idle n ps (suc turns) p e = rw (e, serve)
 
-serve_grant : (n : ℕ) (ps : List ℕ) (turns : ℕ) (p : Served) (j : ℕ) → next_served n ps p ≡ Runs j → serve n ps (suc turns) p ≡ serve n ps turns (grant_to j p)
+serve_grant : (n : ℕ) (ps : List ℕ) (turns : ℕ) (p : Served) (j : ℕ) → next_served n ps p ≡ Some j → serve n ps (suc turns) p ≡ serve n ps turns (grant_to j p)
 unfolding serve
 serve_grant n ps turns p j e = rw (e, serve)
 
 -- ---- a kernel's turns
 
-pub served_idle : (k : State) (g : ℕ) → next_served k.counts.tasks k.places (served k 0) ≡ Idle → served_of k g ≡ served k g
+pub served_idle : (k : State) (g : ℕ) → next_served k.counts.tasks k.places (served k 0) ≡ None → served_of k g ≡ served k g
 unfolding served_of
 served_idle k g e = serve_idle k.counts.tasks k.places k.counts.tasks (served k g) e
 
@@ -55,7 +55,7 @@ module _ {k : State} {first left : ℕ} {now : State} {g : ℕ} (h : Serves k fi
   counted : {r : Running} → next_served now.counts.tasks now.places (served now 0) ≡ r → next_served k.counts.tasks k.places (served now 0) ≡ r
   counted e = ap₂ (λ (n : Counts) (ps : List ℕ). next_served n.tasks ps (served now 0)) (sym h.counts) (sym h.places) ∙ e
 
-  pub serves_idle : next_served now.counts.tasks now.places (served now 0) ≡ Idle → Ends k first now g
+  pub serves_idle : next_served now.counts.tasks now.places (served now 0) ≡ None → Ends k first now g
   serves_idle e =
       let q = sym (serve_idle k.counts.tasks k.places left (served now g) (counted e)) in
       (ap (λ (p : Served). with_served p now) q ∙ h.state, ap (λ (p : Served). p.granted) q ∙ h.granted)
@@ -64,7 +64,7 @@ module _ {k : State} {first left : ℕ} {now : State} {g : ℕ} (h : Serves k fi
   unfolding serve
   serves_end e = (rw e at h.state, rw e at h.granted)
 
-  pub serves_turn : (j less : ℕ) → left ≡ suc less → next_served now.counts.tasks now.places (served now 0) ≡ Runs j
+  pub serves_turn : (j less : ℕ) → left ≡ suc less → next_served now.counts.tasks now.places (served now 0) ≡ Some j
       → Serves k first less (with_served (grant_to j (served now 0)) now) (put j g)
   unfolding grant_to
   serves_turn j less l e =
@@ -83,5 +83,5 @@ module _ {k : State} {first left : ℕ} {now : State} {g : ℕ} (h : Serves k fi
 
 -- Nobody is served.
 pub next_none : (k : State) → ((i : ℕ) → i < k.counts.tasks → waiting (task_at k.tasks i).wait ≡ false)
-    → next_served k.counts.tasks k.places (served k 0) ≡ Idle
+    → next_served k.counts.tasks k.places (served k 0) ≡ None
 next_none k f = most_urgent_none k.counts.tasks _ _ (λ i l. servable_idle k.counts.tasks k.tasks k.locks i (f i l))

@@ -64,7 +64,6 @@ module _ (n : ℕ) (ts : List Task) (r : Locks) (i : ℕ) where
   pub servable_idle : waiting (task_at ts i).wait ≡ false → servable n ts r i ≡ false
   servable_idle e = rw e
 
-  pub servable_each : waiting (task_at ts i).wait ≡ true
-      → servable n ts r i ≡ every (available n ts r (task_at ts i).current (task_at ts i).wait) (wanted (task_at ts i))
-  unfolding could_be_granted
-  servable_each e = rw e
+  pub servable_waits : waiting (task_at ts i).wait ≡ true
+      → servable n ts r i ≡ could_be_granted n ts r (task_at ts i).current (task_at ts i).wait (wanted (task_at ts i))
+  servable_waits e = rw e

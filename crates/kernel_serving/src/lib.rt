@@ -21,19 +21,17 @@ pub struct Serviced {
 }
 
 // The most urgent task that waits on a list that could be granted, held or not. A task is given up at the first
-// number of its list that isn't there for it.
+// number of its list that isn't there for it: one labelled scan, and no call of could_be_granted (docs/DECISIONS.md,
+// "Forms").
 pub fn next_served(k: State) -> Running
     requires { waits_ok k ≡ true }
     ensures { result ≡ next_served k.counts.tasks k.places (served k 0) }
 {
-    let counts = k.counts;
-    let n = counts.tasks as usize;
-    let locks = k.locks;
     let mut writers = no_writers();
     let mut lead = no_lead();
-    'tasks: for i in 0..n {
-        let t = k.tasks[i];
-        let wait = t.wait;
+    // By number, since it names a task in its table, in places and in the lead.
+    'tasks: for i in 0..k.counts.tasks as usize {
+        let wait = k.tasks[i].wait;
         if !is_waiting(wait) {
             continue 'tasks;
         }
@@ -42,16 +40,21 @@ pub fn next_served(k: State) -> Running
         if lead.urgency <= u {
             continue 'tasks;
         }
-        let m = k.tasks[i].len as usize;
-        let t = k.tasks[i];
-        let list = t.list;
         if is_missing(writers.known, wait) {
             writers = writers_of(k);
         }
-        for j in 0..m {
-            let x = list[j] as usize;
-            let b = locks.bolts[x];
-            if !is_available(locks.semaphores[x], b, writers.first[x], priority, wait) {
+        let list = k.tasks[i].list;
+        let asked = &list[..k.tasks[i].len as usize];
+        for &number in asked {
+            let x = number as usize;
+            let first = writers.first[x];
+            if !is_available(
+                k.locks.semaphores[x],
+                k.locks.bolts[x],
+                first,
+                priority,
+                wait,
+            ) {
                 continue 'tasks;
             }
         }
@@ -68,14 +71,9 @@ fn grant_to(mut k: State, i: usize) -> State
     ensures { result ≡ with_served (grant_to i (served k 0)) k }
 {
     let t = k.tasks[i];
-    let wait = t.wait;
-    let list = t.list;
-    let m = t.len as usize;
-    let locks = k.locks;
-    let left = locks.move_all(Way::Take, wait, m, list);
-    let over = t.wait_over();
-    k.locks = left;
-    k.tasks[i] = over;
+    let list = &t.list[..t.len as usize];
+    k.locks = k.locks.move_all(Way::Take, t.wait, list);
+    k.tasks[i] = t.wait_over();
     k
 }
 
@@ -84,24 +82,15 @@ pub fn serve(k: State, granted: u32) -> Serviced
     requires { waits_ok k ≡ true }
     ensures { (result.state ≡ with_served (served_of k granted) k) × (result.granted ≡ (served_of k granted).granted) }
 {
-    let counts = k.counts;
-    let turns = counts.tasks as usize;
-    let mut now = k;
-    let mut g = granted;
+    let turns = k.counts.tasks;
+    let mut s = Serviced { state: k, granted };
     for turn in 0..turns {
-        let next = next_served(now);
-        let Running::Runs(i) = next else {
-            return Serviced {
-                state: now,
-                granted: g,
-            };
+        let Some(i) = next_served(s.state) else {
+            return s;
         };
         let at = i as usize;
-        now = grant_to(now, at);
-        g = put_task(at, g);
+        s.state = grant_to(s.state, at);
+        s.granted = put_task(at, s.granted);
     }
-    Serviced {
-        state: now,
-        granted: g,
-    }
+    s
 }

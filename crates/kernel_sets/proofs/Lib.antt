@@ -1,5 +1,4 @@
 -- Laws that the proofs of the code share.
-pub mod PlaceLaws
 pub mod SetTill
 pub mod Turning
 pub mod SetOps

@@ -1,4 +1,5 @@
-// Sets of tasks as numbers, in which task i counts 2^i.
+// Sets of tasks as numbers, in which task i counts 2^i. A task goes by its number, required to be below 32: a type for
+// that would be made anew at each turn of a loop.
 #![tactic(auto)]
 
 ghost use Rattle.std.specs.Prelude.{◌≡◌, List, ℕ, ◌<◌};

@@ -1,4 +1,5 @@
 -- The step, by what refuses the kernel, by what the record is admitted as, and on a quiet tick.
+use Rattle.std.specs.Prelude.{Err, None, Ok}
 use mathlib.Core.Path.{◌≡◌, refl, sym, ap, ◌∙◌}
 use mathlib.Core.Bool.{true}
 use mathlib.Core.List.{List}
@@ -12,18 +13,15 @@ use Rattle.calendar.specs.Moments.{earlier_than}
 use Rattle.calendar.specs.declared.Instant.{Instant}
 use Rattle.layout.specs.declared.Head.{Head}
 use Rattle.record.specs.Reading.{call_with}
-use Rattle.record.specs.declared.Read.TheVariants.{Refused, Accepted}
 use Rattle.record.specs.declared.Reading.{Reading}
 use Rattle.facts.proofs.Bools.{both}
 use Rattle.machine.specs.NextEvent.{next_event}
 use Rattle.machine.specs.Refusals.{admitted}
-use Rattle.machine.specs.Running.{runner}
+use Rattle.machine.specs.Running.{runner, Running}
 use Rattle.machine.specs.Scripts.{one_tick}
 use Rattle.machine.specs.State.{most_tasks, begun_at}
 use Rattle.machine.specs.Step.{answered, settle, step}
 use Rattle.machine.specs.Test.{kernel_refusal}
-use Rattle.machine.specs.declared.Running.{Running}
-use Rattle.machine.specs.declared.Running.TheVariants.{Idle}
 use Rattle.machine.specs.declared.State.{State}
 use Rattle.machine.proofs.Filing.{taken_runner, taken_next}
 use Rattle.machine.proofs.NextEvent.{next_is_next}
@@ -32,17 +30,17 @@ use Rattle.kernel_values.specs.Ticks.{is_quiet}
 
 module _ (day : ℕ) (k : State) (s : List ℕ) where
   -- A kernel is turned away with n.
-  pub step_away : {n : ℕ} → n ≡ kernel_refusal day k → (n ≡ 0 → ⊥) → answered k n Idle ≡ step day k s
+  pub step_away : {n : ℕ} → n ≡ kernel_refusal day k → (n ≡ 0 → ⊥) → answered k n None ≡ step day k s
   unfolding step
   step_away {n = zero} e z = absurd (z refl)
   step_away {n = suc n} e z = rw (← e)
 
   module _ (v : kernel_refusal day k ≡ 0) {r : Reading} (o : r ≡ admitted day k.counts k.begun s) where
-    pub step_refused : {n : ℕ} {x : Running} → r.answer ≡ Refused n → x ≡ runner k → answered k n x ≡ step day k s
+    pub step_refused : {n : ℕ} {x : Running} → r.answer ≡ Err n → x ≡ runner k → answered k n x ≡ step day k s
     unfolding step
     step_refused a q = rw (v, ← o, a, q)
 
-    pub step_admitted : {h : Head} → r.answer ≡ Accepted h → settle day k (call_with h r.list) ≡ step day k s
+    pub step_admitted : {h : Head} → r.answer ≡ Ok h → settle day k (call_with h r.list) ≡ step day k s
     unfolding step
     step_admitted a = rw (v, ← o, a)
 

@@ -1,4 +1,5 @@
 // The step over bytes, equal to the machine's: the kernel test, then what refuses the record, then what its mark does.
+// That a kernel has passed the test is a clause and no type: the next one passes by theorem (`StepPasses`), untested.
 #![tactic(auto)]
 
 ghost use Rattle.std.specs.Prelude.{◌≡◌, true};
@@ -33,7 +34,7 @@ use machine::{Running, Sort, State, Stepped};
 use record::Read;
 use record::reader::number_of;
 
-// What refuses a kernel whatever the record is: 1, 16, or 0 for one that the step can go on with.
+// What refuses a kernel whatever the record is, 1 or 16; with any other the step can go on.
 pub use kernel_test::kernel_refusal;
 
 // A call about task i and the locks: what refuses it, or what it does.
@@ -47,26 +48,20 @@ fn done_to(mut k: State, i: usize, sort: Sort, h: Head, list: Numbers, r: Runnin
     ensures { result ≡ settle day_length k (call_with h list) }
 {
     let t = k.tasks[i];
-    let locks = k.locks;
-    let now = k.now;
-    let file = k.file;
-    let mut next = file.next;
-    let number = state_refusal(sort, h, list, r, t, locks, now, next);
-    if number != 0 {
-        return answered(k, number, r);
+    let mut next = k.file.next;
+    if let Err(refusal) = state_refusal(sort, h, list, r, t, k.locks, k.now, next) {
+        return answered(k, refusal.number(), r);
     }
     let mut writers = no_writers();
     if is_missing(writers.known, asked_kind(sort)) {
         writers = writers_of(k);
     }
-    let c = change_of(sort, h, list, t, locks, writers, k.clock, now);
-    let task = c.task;
-    let locks = c.locks;
-    k.tasks[i] = task;
-    k.locks = locks;
-    let turned = nobody_turned().with_turn(i, t, task);
-    if soonest(now, t) != soonest(now, task) {
-        next = next_event(k, now);
+    let c = change_of(sort, h, list, t, k.locks, writers, k.clock, k.now);
+    k.tasks[i] = c.task;
+    k.locks = c.locks;
+    let turned = nobody_turned().with_turn(i, t, c.task);
+    if soonest(k.now, t) != soonest(k.now, c.task) {
+        next = next_event(k, k.now);
     }
     finished(k, put_marks(i, c.marks, no_sets()), turned, next)
 }
@@ -77,10 +72,8 @@ fn quiet_tick(k: State) -> Stepped
     requires next_value { is_quiet k.now k.file.next ≡ true }
     ensures { result ≡ step day_length k one_tick }
 {
-    let now = k.now;
-    let file = k.file;
-    let r = file.running;
-    answered(begun_at(k, now.plus(Duration(1))), 0, r)
+    let r = k.file.running;
+    answered(begun_at(k, k.now.plus(Duration(1))), 0, r)
 }
 
 // The step on a kernel that is refused with neither 1 nor 16: its running task and next event are on file. Whether the
@@ -90,23 +83,19 @@ pub fn step_on(k: State, tick: bool, s: &[u8]) -> Stepped
     requires tick_value { tick ≡ is_tick s.now }
     ensures { result ≡ step day_length k s.now }
 {
-    let file = k.file;
-    let r = file.running;
+    let r = k.file.running;
     if tick {
         return arrived(k, Mark::TI, r);
     }
-    let counts = k.counts;
-    let a = admit(counts, k.begun, s);
-    let answer = a.answer;
-    let list = a.list;
-    let sort = a.sort;
-    let Read::Accepted(head) = answer else {
-        return answered(k, number_of(answer), r);
+    let a = admit(k.counts, k.begun, s);
+    let Ok(head) = a.answer else {
+        return answered(k, number_of(a.answer), r);
     };
-    let mark = head.mark;
+    let sort = a.sort;
+    let list = a.list;
     match sort {
         Sort::Declaration => declared(k, head),
-        Sort::EveryTask => arrived(k, mark, r),
+        Sort::EveryTask => arrived(k, head.mark, r),
         Sort::AnInterrupt => interrupted(k, head),
         Sort::OneTask => done_to(k, head.number as usize, sort, head, list, r),
         _ => done_to(k, runner_at(r), sort, head, list, r),
@@ -117,15 +106,12 @@ pub fn step_on(k: State, tick: bool, s: &[u8]) -> Stepped
 pub fn step(k: State, s: &[u8]) -> Stepped
     ensures { result ≡ step day_length k s.now }
 {
-    let refusal = kernel_refusal(k);
-    if refusal != 0 {
-        return answered(k, refusal, Running::Idle);
+    let refused = kernel_refusal(k);
+    if let Err(refusal) = refused {
+        return answered(k, refusal.number(), None);
     }
-    let now = k.now;
-    let file = k.file;
-    let next = file.next;
     let tick = is_tick(s);
-    if tick & is_quiet(now, next) {
+    if tick & is_quiet(k.now, k.file.next) {
         return quiet_tick(k);
     }
     step_on(k, tick, s)

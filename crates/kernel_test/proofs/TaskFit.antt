@@ -1,24 +1,22 @@
 -- One task in the kernel test: by its priorities, schedule and continuation, by a start kept back, and by whether it is at ease.
+use Rattle.std.specs.Prelude.{is_some, None, Option, Some}
 use mathlib.Core.Path.{◌≡◌, refl}
 use mathlib.Core.Bool.{Bool, true, false, not, ◌&&◌, ◌||◌, and-true, and-false, and_assoc, and_comm, or-true, or-false}
 use mathlib.Core.List.{List}
 use Prim.Native.Nat.{ℕ, ◌≤◌}
 use borrow.Author.Tests.{le-leb}
-use Rattle.calendar.specs.declared.Moment.TheVariants.{Never}
 use Rattle.lock.specs.Locks.{waiting}
 use Rattle.lock.specs.declared.Locks.{Locks}
 use Rattle.lock.specs.declared.Wait.{Wait}
 use Rattle.lock.specs.declared.Wait.TheVariants.{Nothing, Request, Reserve, Enter}
 use Rattle.facts.proofs.Bools.{contra, neither}
-use Rattle.task.specs.State.{unheld, is_kept, runnable, wanted}
+use Rattle.task.specs.State.{unheld, runnable, wanted}
 use Rattle.schedule.specs.Alarms.{pending, planned}
 use Rattle.schedule.specs.Coming.{next_of}
 use Rattle.task.specs.Coming.{delay_end}
 use Rattle.schedule.specs.declared.Alarm.{Alarm}
 use Rattle.task.specs.declared.Hold.{Hold}
 use Rattle.task.specs.declared.Hold.TheVariants.{Unheld, Suspended, Delayed}
-use Rattle.task.specs.declared.Kept.{Kept}
-use Rattle.task.specs.declared.Kept.TheVariants.{Empty, Back}
 use Rattle.schedule.specs.declared.Schedule.{Schedule}
 use Rattle.task.specs.declared.Task.{Task}
 use Rattle.machine.specs.Granting.{could_be_granted}
@@ -45,20 +43,20 @@ pub continuation_some : (ni : ℕ) (a : Alarm) (p : ℕ) → planned a.plan ≡ 
 unfolding continuation_ok
 continuation_some ni a p e l = rw (e, le-leb p most_priority l, and-true)
 
-pub no_start : (a : Alarm) → planned a.plan ≡ false → next_of a ≡ Never
+pub no_start : (a : Alarm) → planned a.plan ≡ false → next_of a ≡ None
 no_start a e = rw (neither (pending a.plan) _ e).0
 
 -- ---- a start kept back: there is none, or its task lives and it has a priority
 
-pub record Starts (alive : Bool) (k : Kept) : Type 0 where
+pub record Starts (alive : Bool) (k : Option ℕ) : Type 0 where
   pub kept : kept_ok k ≡ true
-  pub lives : (alive || not (is_kept k)) ≡ true
+  pub lives : (alive || not (is_some k)) ≡ true
 
-pub start_none : (a : Bool) (k : Kept) → is_kept k ≡ false → Starts a k
-start_none a (Back p) e = contra refl e
-start_none a Empty e = record { kept = refl; lives = or-true a }
+pub start_none : (a : Bool) (k : Option ℕ) → is_some k ≡ false → Starts a k
+start_none a (Some p) e = contra refl e
+start_none a None e = record { kept = refl; lives = or-true a }
 
-pub start_kept : (a : Bool) (k : Kept) → (a && kept_ok k) ≡ true → Starts a k
+pub start_kept : (a : Bool) (k : Option ℕ) → (a && kept_ok k) ≡ true → Starts a k
 start_kept false k e = contra e refl
 start_kept true k e = record { kept = e; lives = refl }
 
@@ -68,7 +66,7 @@ pub record Eased (w : Wait) (h : Hold) : Type 0 where
   pub waits : waiting w ≡ false
   pub hold : hold_ok h ≡ true
   pub free : unheld h ≡ true
-  pub ends : delay_end h ≡ Never
+  pub ends : delay_end h ≡ None
 
 pub eased : (w : Wait) (h : Hold) → at_ease w h ≡ true → Eased w h
 eased Request h e = contra e refl
@@ -88,10 +86,6 @@ busy_rests t e = rw (and_assoc t.alive, and_comm (unheld t.hold), e, and-false)
 
 -- ---- one task
 
-pub busy_left : (n : Counts) (ts : List Task) (r : Locks) (t : Task) → t.alive ≡ true → hold_ok t.hold ≡ true → busy_ok n ts r t ≡ wait_settled n ts r t
-unfolding busy_ok
-busy_left n ts r t a h = rw (a, h)
-
 module _ (day : ℕ) (n : Counts) (ts : List Task) (r : Locks) (t : Task) where
   pub odd_priority : (is_priority t.declared && is_priority t.current) ≡ false → fit day n ts r t ≡ false
   unfolding fit task_ok
@@ -105,7 +99,7 @@ module _ (day : ℕ) (n : Counts) (ts : List Task) (r : Locks) (t : Task) where
   unfolding fit task_ok
   odd_continuation e = rw (e, and-false)
 
-  pub odd_kept : is_kept t.kept ≡ true → (t.alive && kept_ok t.kept) ≡ false → fit day n ts r t ≡ false
+  pub odd_kept : is_some t.kept ≡ true → (t.alive && kept_ok t.kept) ≡ false → fit day n ts r t ≡ false
   unfolding fit task_ok
   odd_kept k e = rw (k, or-false) (go (is_priority t.declared && is_priority t.current) (kept_ok t.kept) (hold_ok t.hold) t.alive _ _ _ _ e)
     where
@@ -115,7 +109,7 @@ module _ (day : ℕ) (n : Counts) (ts : List Task) (r : Locks) (t : Task) where
 
   pub odd_busy : at_ease t.wait t.hold ≡ false → busy_ok n ts r t ≡ false → fit day n ts r t ≡ false
   unfolding fit task_ok busy_ok wait_settled
-  odd_busy e = rw (and_assoc (not (is_kept t.kept)), e, and-false, or-false) (go (is_priority t.declared && is_priority t.current && kept_ok t.kept) (hold_ok t.hold) t.alive _ _ _ _)
+  odd_busy e = rw (and_assoc (not (is_some t.kept)), e, and-false, or-false) (go (is_priority t.declared && is_priority t.current && kept_ok t.kept) (hold_ok t.hold) t.alive _ _ _ _)
     where
       go : (p h a w s c g : Bool) → (a && h && (w && g)) ≡ false → (p && h && a && w && s && c && g) ≡ false
       go false h a w s c g e = refl
@@ -135,7 +129,7 @@ module _ (day : ℕ) (n : Counts) (ts : List Task) (r : Locks) (t : Task) where
     unfolding fit task_ok
     fit_eased e =
         let q = eased t.wait t.hold e in
-        rw (priorities, start.kept, q.hold, and_assoc (not (is_kept t.kept)), e, and-true, start.lives, q.waits, schedule, continuation)
+        rw (priorities, start.kept, q.hold, and_assoc (not (is_some t.kept)), e, and-true, start.lives, q.waits, schedule, continuation)
 
     pub fit_busy : busy_ok n ts r t ≡ true → fit day n ts r t ≡ true
     unfolding fit task_ok busy_ok wait_settled

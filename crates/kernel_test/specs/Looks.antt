@@ -1,6 +1,5 @@
 -- Names for contracts: what one look at a kernel tells.
-use Rattle.std.specs.Prelude.{Bool, true, false, not, cond, ◌&&◌, List, ℕ}
-use Rattle.calendar.specs.declared.Moment.TheVariants.{Never}
+use Rattle.std.specs.Prelude.{None, Option, Some, Bool, not, cond, ◌&&◌, List, ℕ}
 use Rattle.lock.specs.Locks.{waiting}
 use Rattle.lock.specs.declared.Locks.{Locks}
 use Rattle.lock.specs.declared.Wait.{Wait}
@@ -9,14 +8,13 @@ use Rattle.task.specs.declared.Hold.{Hold}
 use Rattle.task.specs.declared.Task.{Task}
 use Rattle.machine.specs.State.{task_at}
 use Rattle.machine.specs.Granting.{could_be_granted}
-use Rattle.machine.specs.NextEvent.{next_event}
-use Rattle.machine.specs.Running.{runner}
+use Rattle.machine.specs.NextEvent.{file_of}
 use Rattle.machine.specs.Sums.{all_below}
-use Rattle.machine.specs.Test.{counts_ok, hold_ok, wait_ok, valid}
+use Rattle.machine.specs.Test.{counts_ok, hold_ok, wait_ok, valid, same_file}
 use Rattle.machine.specs.declared.Counts.{Counts}
 use Rattle.machine.specs.declared.State.{State}
-use Rattle.machine.specs.declared.Running.TheVariants.{Idle}
-use Rattle.kernel_test.specs.declared.Survey.{Survey}
+use Rattle.machine.specs.declared.OnFile.{OnFile}
+use Rattle.record.specs.Refusals.{unless}
 
 -- The counts are in range, and each wait's list names one to four declared numbers, none twice.
 unfoldable pub waits_ok : State → Bool
@@ -39,13 +37,11 @@ busy_ok n ts r t = t.alive && hold_ok t.hold && wait_settled n ts r t
 
 -- ---- all of it
 
--- The survey of a kernel that fails the test, which is not looked at further.
-abbrev pub unfit : Survey
-unfit = record { ok = false; next = Never; runner = Idle }
+-- What one look at a kernel tells: what it is to have on file, or nothing where it fails the test.
+unfoldable pub surveyed : ℕ → State → Option OnFile
+surveyed day k = cond (valid day k) (Some (file_of k)) None
 
--- What one look at a kernel tells.
-unfoldable pub surveyed : ℕ → State → Survey
-surveyed day k =
-    cond (valid day k)
-    (record { ok = true; next = next_event k; runner = runner k })
-    unfit
+-- 1 where nothing was found, 16 where another task or next event is on file.
+abbrev pub file_refusal : Option OnFile → OnFile → ℕ
+file_refusal None f = 1
+file_refusal (Some g) f = unless (same_file f g) 16 0

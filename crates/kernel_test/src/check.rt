@@ -17,7 +17,7 @@ use lists::is_distinct;
 use lock::{Locks, MOST_LOCKS, Wait, is_waiting};
 use machine::{Counts, MOST_INTERRUPTS, MOST_TASKS};
 use schedule::{Alarm, Schedule};
-use task::{Hold, Kept, Task};
+use task::{Hold, Task};
 
 fn is_stored(n: Instant) -> bool
     ensures { result ≡ is_stored n }
@@ -29,9 +29,8 @@ fn is_hold_ok(h: Hold) -> bool
     ensures { result ≡ hold_ok h }
 {
     match h {
-        Hold::Unheld => true,
-        Hold::Suspended => true,
         Hold::Delayed(n) => is_stored(n),
+        _ => true,
     }
 }
 
@@ -42,13 +41,10 @@ fn is_priority(p: u8) -> bool
     1 <= p
 }
 
-fn is_kept_ok(k: Kept) -> bool
+fn is_kept_ok(k: Option<u8>) -> bool
     ensures { result ≡ kept_ok k }
 {
-    match k {
-        Kept::Empty => true,
-        Kept::Back(p) => is_priority(p),
-    }
+    k.is_none_or(is_priority)
 }
 
 fn is_end_ok(e: End) -> bool
@@ -64,23 +60,13 @@ fn is_end_ok(e: End) -> bool
 fn is_moment_ok(m: Moment) -> bool
     ensures { result ≡ moment_ok m }
 {
-    match m {
-        Moment::Never => true,
-        Moment::At(n) => is_stored(n),
-    }
+    m.is_none_or(is_stored)
 }
 
 fn are_terms_ok(s: Schedule) -> bool
     ensures { result ≡ terms_ok day_length s }
 {
-    let end = s.end;
-    if !is_priority(s.priority) {
-        return false;
-    }
-    if !is_period(s.period) {
-        return false;
-    }
-    is_end_ok(end)
+    is_priority(s.priority) && is_period(s.period) && is_end_ok(s.end)
 }
 
 fn is_listener_ok(interrupts: u8, a: Alarm) -> bool
@@ -90,45 +76,28 @@ fn is_listener_ok(interrupts: u8, a: Alarm) -> bool
 }
 
 // A WHEN waits for its interrupt; what is to come has its instant.
+#[tactic(auto, unfolding(machine::specs::Test::alarm_ok))]
 fn is_alarm_ok(interrupts: u8, a: Alarm) -> bool
     ensures { result ≡ alarm_ok interrupts a }
 {
-    let plan = a.plan;
-    let next = a.next;
-    if plan.is_listening() {
-        if !is_listener_ok(interrupts, a) {
-            return false;
-        }
-    }
-    if plan.is_pending() {
-        return is_stored(next);
-    }
-    true
+    (!a.plan.is_listening() || is_listener_ok(interrupts, a))
+        && (!a.plan.is_pending() || is_stored(a.next))
 }
 
 // The last due, while one is to come.
 fn is_last_ok(s: Schedule) -> bool
     ensures { result ≡ last_ok s }
 {
-    let alarm = s.alarm;
-    let plan = alarm.plan;
-    let last = s.last;
-    !plan.is_pending() | is_moment_ok(last)
+    !s.alarm.plan.is_pending() || is_moment_ok(s.last)
 }
 
 // The test of a schedule that there is.
+#[tactic(auto, unfolding(machine::specs::Test::schedule_ok))]
 pub fn is_schedule_ok(interrupts: u8, s: Schedule) -> bool
     requires { planned s.alarm.plan ≡ true }
     ensures { result ≡ schedule_ok day_length interrupts s }
 {
-    let alarm = s.alarm;
-    if !is_alarm_ok(interrupts, alarm) {
-        return false;
-    }
-    if !is_last_ok(s) {
-        return false;
-    }
-    are_terms_ok(s)
+    is_alarm_ok(interrupts, s.alarm) && is_last_ok(s) && are_terms_ok(s)
 }
 
 // The test of a continuation that there is. Its priority can be any byte.
@@ -142,30 +111,21 @@ pub fn is_continuation_ok(interrupts: u8, a: Alarm) -> bool
 pub fn are_priorities(p: u8, q: u8) -> bool
     ensures { result ≡ (is_priority p && is_priority q) }
 {
-    if !is_priority(p) {
-        return false;
-    }
-    is_priority(q)
+    is_priority(p) && is_priority(q)
 }
 
 // A start is kept back for a living task alone, and with a priority.
-pub fn is_kept_right(alive: bool, kept: Kept) -> bool
+pub fn is_kept_right(alive: bool, kept: Option<u8>) -> bool
     ensures { result ≡ (alive && kept_ok kept) }
 {
-    if !alive {
-        return false;
-    }
-    is_kept_ok(kept)
+    alive && is_kept_ok(kept)
 }
 
 // Waiting for nothing, unheld.
 pub fn is_at_ease(wait: Wait, hold: Hold) -> bool
     ensures { result ≡ at_ease wait hold }
 {
-    if is_waiting(wait) {
-        return false;
-    }
-    hold.is_unheld()
+    !is_waiting(wait) && hold.is_unheld()
 }
 
 // A wait's list names one to four numbers, none twice, all declared, and could not be granted.
@@ -173,37 +133,25 @@ fn is_wait_settled(n: Counts, locks: Locks, writers: Writers, t: Task) -> bool
     requires { counts_ok n ≡ true }
     ensures { (ts : List Task) → TellsFor t.wait n.tasks ts writers → result ≡ wait_settled n ts locks t }
 {
-    let wait = t.wait;
-    if !is_waiting(wait) {
+    if !is_waiting(t.wait) {
         return true;
     }
-    let list = t.list;
-    let len = t.len as usize;
-    if !((1 <= len) & (len <= MOST_NUMBERS as usize)) {
+    if !((1 <= t.len) & (t.len <= MOST_NUMBERS)) {
         return false;
     }
-    if !is_distinct(list, len) {
-        return false;
-    }
-    if !are_below(list, len, count_of(n, wait)) {
-        return false;
-    }
-    !could_be_granted(locks, writers, t.current, wait, len, list)
+    let list = &t.list[..t.len as usize];
+    is_distinct(list)
+        && are_below(list, count_of(n, t.wait))
+        && !could_be_granted(&locks, &writers, t.current, t.wait, list)
 }
 
 // The test of a task that isn't at ease, beside its priorities, its schedule and a start kept back.
+#[tactic(auto, unfolding(crate::specs::Looks::busy_ok))]
 pub fn is_busy_ok(n: Counts, locks: Locks, writers: Writers, t: Task) -> bool
     requires { counts_ok n ≡ true }
     ensures { (ts : List Task) → TellsFor t.wait n.tasks ts writers → result ≡ busy_ok n ts locks t }
 {
-    let hold = t.hold;
-    if !t.alive {
-        return false;
-    }
-    if !is_hold_ok(hold) {
-        return false;
-    }
-    is_wait_settled(n, locks, writers, t)
+    t.alive && is_hold_ok(t.hold) && is_wait_settled(n, locks, writers, t)
 }
 
 pub fn are_counts_ok(n: Counts) -> bool

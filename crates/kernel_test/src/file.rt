@@ -1,23 +1,23 @@
 // What is on file: whether it is what a scan found.
 ghost use Rattle.std.specs.Prelude.{◌≡◌};
-ghost use Rattle.record.specs.Refusals.{unless};
-ghost use Rattle.machine.specs.Test.{same_file};
+ghost use Rattle.record.specs.Numbers.{refused_with};
+ghost use Rattle.kernel_test.specs.Looks.{file_refusal};
 
-use calendar::Moment;
-use kernel_values::running::is_same;
-use machine::{OnFile, Running};
+use kernel_values::running;
+use machine::OnFile;
+use record::refusals::Refusal;
 
-// 1 where the kernel test said no, 16 where another task or next event is on file than the one found, else 0.
-pub fn file_refusal(ok: bool, stored: OnFile, running: Running, next: Moment) -> u8
-    ensures { result ≡ unless ok 1 (unless (same_file stored (record { running = running; next = next })) 16 0) }
+// 1 where the kernel test found nothing, 16 where another task or next event is on file than the one found.
+pub fn file_refusal(found: Option<OnFile>, stored: OnFile) -> Result<(), Refusal>
+    ensures { refused_with result ≡ file_refusal found stored }
 {
-    let task = stored.running;
-    let moment = stored.next;
-    if !ok {
-        return 1;
+    let Some(found) = found else {
+        return Err(Refusal::UnfitKernel);
+    };
+    let same = running::is_same(stored.running, found.running)
+        && calendar::is_same(stored.next, found.next);
+    if !same {
+        return Err(Refusal::WrongFile);
     }
-    if !is_same(task, running) {
-        return 16;
-    }
-    if moment.is_same(next) { 0 } else { 16 }
+    Ok(())
 }

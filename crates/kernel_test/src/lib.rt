@@ -6,130 +6,84 @@ pub mod file;
 
 ghost use Rattle.std.specs.Prelude.{◌≡◌};
 ghost use Rattle.calendar.specs.Limits.{day_length};
+ghost use Rattle.record.specs.Numbers.{refused_with};
 ghost use Rattle.machine.specs.Test.{kernel_refusal};
-ghost use Rattle.kernel_test.specs.Looks.{unfit, surveyed};
+ghost use Rattle.kernel_test.specs.Looks.{surveyed};
 
 use crate::check::{
     are_counts_ok, are_priorities, is_at_ease, is_busy_ok, is_continuation_ok, is_kept_right,
     is_schedule_ok,
 };
 use crate::file::file_refusal;
-use calendar::{LAST_INSTANT, Moment, is_time_of_day};
+use calendar::{LAST_INSTANT, is_time_of_day};
 use kernel_granting::{is_missing, no_writers, writers_of};
-use kernel_next::{moment_of, sooner_due, sooner_end};
+use kernel_next::{sooner_due, sooner_end};
 use kernel_places::seen::none_seen;
 use kernel_urgency::scan::no_lead;
-use machine::{Running, State};
+use machine::{OnFile, State};
+use record::refusals::Refusal;
 
-// Whether the kernel passes the test; if so, its next event and its running task.
-#[derive(Clone, Copy)]
-pub struct Survey {
-    pub ok: bool,
-    pub next: Moment,
-    pub runner: Running,
-}
-
-// The survey of a kernel that fails the test.
-fn unfit() -> Survey
-    ensures { result ≡ unfit }
-{
-    Survey {
-        ok: false,
-        next: Moment::Never,
-        runner: Running::Idle,
-    }
-}
-
-// Each part of a turn copies the task anew: of a copy that is only read, the machine loads just the fields in use.
-// A task that waits or is held can't run, so it is not held against the lead.
-pub fn surveyed(k: State) -> Survey
+// A kernel that passes the test has this to have on file: its running task and its next event. One that fails has
+// nothing. A task that waits or is held can't run, so it is not held against the lead.
+pub fn surveyed(k: State) -> Option<OnFile>
     ensures { result ≡ surveyed day_length k }
 {
-    let counts = k.counts;
-    let now = k.now;
-    if !((now.0 <= LAST_INSTANT) & is_time_of_day(k.clock) & are_counts_ok(counts)) {
-        return unfit();
+    if !((k.now.0 <= LAST_INSTANT) & is_time_of_day(k.clock) & are_counts_ok(k.counts)) {
+        return None;
     }
-    let n = counts.tasks as usize;
-    let locks = k.locks;
+    let n = k.counts.tasks as usize;
     let mut writers = no_writers();
-    let mut soonest = 0;
+    let mut soonest = None;
     let mut seen = none_seen();
     let mut lead = no_lead();
+    // By number, since it names a task in its table, in places and in the lead.
     for i in 0..n {
         let place = k.places[i];
         seen = seen.with(place);
-        let current = k.tasks[i].current;
-        if !are_priorities(k.tasks[i].declared, current) {
-            return unfit();
+        if !are_priorities(k.tasks[i].declared, k.tasks[i].current) {
+            return None;
         }
-        let t = k.tasks[i];
-        let continuation = t.continuation;
-        let plan = continuation.plan;
-        if plan.is_planned() {
-            let t = k.tasks[i];
-            let continuation = t.continuation;
-            if !is_continuation_ok(counts.interrupts, continuation) {
-                return unfit();
+        if k.tasks[i].continuation.plan.is_planned() {
+            if !is_continuation_ok(k.counts.interrupts, k.tasks[i].continuation) {
+                return None;
             }
-            soonest = sooner_due(soonest, now, continuation);
+            soonest = sooner_due(soonest, k.now, k.tasks[i].continuation);
         }
-        let t = k.tasks[i];
-        let s = t.schedule;
-        let alarm = s.alarm;
-        let plan = alarm.plan;
-        if plan.is_planned() {
-            let t = k.tasks[i];
-            let s = t.schedule;
-            if !is_schedule_ok(counts.interrupts, s) {
-                return unfit();
+        if k.tasks[i].schedule.alarm.plan.is_planned() {
+            if !is_schedule_ok(k.counts.interrupts, k.tasks[i].schedule) {
+                return None;
             }
-            let alarm = s.alarm;
-            soonest = sooner_due(soonest, now, alarm);
+            soonest = sooner_due(soonest, k.now, k.tasks[i].schedule.alarm);
         }
-        let t = k.tasks[i];
-        let kept = t.kept;
-        if kept.is_back() {
-            let t = k.tasks[i];
-            let kept = t.kept;
-            if !is_kept_right(k.tasks[i].alive, kept) {
-                return unfit();
+        if k.tasks[i].kept.is_some() {
+            if !is_kept_right(k.tasks[i].alive, k.tasks[i].kept) {
+                return None;
             }
         }
-        let t = k.tasks[i];
-        let wait = t.wait;
-        let hold = t.hold;
-        if !is_at_ease(wait, hold) {
-            if is_missing(writers.known, wait) {
+        if !is_at_ease(k.tasks[i].wait, k.tasks[i].hold) {
+            if is_missing(writers.known, k.tasks[i].wait) {
                 writers = writers_of(k);
             }
-            let t = k.tasks[i];
-            if !is_busy_ok(counts, locks, writers, t) {
-                return unfit();
+            if !is_busy_ok(k.counts, k.locks, writers, k.tasks[i]) {
+                return None;
             }
-            let hold = t.hold;
-            soonest = sooner_end(soonest, now, hold);
+            soonest = sooner_end(soonest, k.now, k.tasks[i].hold);
             continue;
         }
-        lead = lead.against_if(k.tasks[i].alive, current, place, i);
+        lead = lead.against_if(k.tasks[i].alive, k.tasks[i].current, place, i);
     }
     if seen.are_wrong(n) {
-        return unfit();
+        return None;
     }
-    Survey {
-        ok: true,
-        next: moment_of(soonest),
-        runner: lead.who(),
-    }
+    Some(OnFile {
+        running: lead.who(),
+        next: soonest,
+    })
 }
 
-// 1, 16, or 0 for a kernel that passes the test and has its running task and its next event on file.
-pub fn kernel_refusal(k: State) -> u8
-    ensures { result ≡ kernel_refusal day_length k }
+// 1 or 16, unless the kernel passes the test and has its running task and its next event on file.
+pub fn kernel_refusal(k: State) -> Result<(), Refusal>
+    ensures { refused_with result ≡ kernel_refusal day_length k }
 {
-    let file = k.file;
-    let v = surveyed(k);
-    let runner = v.runner;
-    let next = v.next;
-    file_refusal(v.ok, file, runner, next)
+    file_refusal(surveyed(k), k.file)
 }

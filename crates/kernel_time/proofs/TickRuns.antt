@@ -1,4 +1,5 @@
 -- Who runs after a tick: a task that can run keeps its priority, so the lead only has to be held against the turns.
+use Rattle.std.specs.Prelude.{None, Option, Some}
 use mathlib.Core.Path.{◌≡◌, refl, sym, ◌∙◌, ap}
 use mathlib.Core.Logic.{◌≢◌}
 use mathlib.Core.Bool.{Bool, true, false, not, ◌&&◌, cond, ◌||◌}
@@ -21,15 +22,11 @@ use Rattle.task.proofs.Alike.{like_continue_at}
 use Rattle.task.proofs.Continuing.{at_idle}
 use Rattle.task.specs.declared.Hold.{Hold}
 use Rattle.task.specs.declared.Hold.TheVariants.{Unheld, Suspended, Delayed}
-use Rattle.task.specs.declared.Kept.{Kept}
-use Rattle.task.specs.declared.Kept.TheVariants.{Empty, Back}
 use Rattle.task.specs.declared.Task.{Task}
 use Rattle.task.specs.declared.Turn.{Turn}
 use Rattle.task.proofs.Waits.{no_wait_tick}
 use Rattle.machine.specs.State.{most_tasks, task_at, place_at}
-use Rattle.machine.specs.Running.{urgency, most_urgent, running_of, most_places}
-use Rattle.machine.specs.declared.Running.{Running}
-use Rattle.machine.specs.declared.Running.TheVariants.{Idle, Runs}
+use Rattle.machine.specs.Running.{urgency, most_urgent, running_of, most_places, Running}
 use Rattle.machine.proofs.Below.{Found, scan_finds, most_urgent_at}
 use Rattle.machine.specs.Sets.{has, holds}
 use Rattle.machine.specs.Places.{event}
@@ -47,12 +44,12 @@ use Rattle.kernel_sets.proofs.SetTill.{put_here, put_other}
 
 -- A scan finds one.
 found_one : (n : ℕ) (test : ℕ → Bool) (u : ℕ → ℕ) (r r' : Running) → Found n test u r → Found n test u r' → r ≡ r'
-found_one n test u Idle Idle f g = refl
-found_one n test u Idle (Runs j) f g = contra g.1 (f j g.0)
-found_one n test u (Runs i) Idle f g = contra f.1 (g i f.0)
-found_one n test u (Runs i) (Runs j) f g =
+found_one n test u None None f g = refl
+found_one n test u None (Some j) f g = contra g.1 (f j g.0)
+found_one n test u (Some i) None f g = contra f.1 (g i f.0)
+found_one n test u (Some i) (Some j) f g =
     by_bool (ltb i j) (λ e. absurd (omega (arith, g.3 i (ltb-true i j e) f.1, f.2 j g.0 g.1)))
-    (λ e. by_eq i j (λ q. ap Runs q) (λ q. absurd (omega (arith, f.3 j (omega (arith, ltb-false i j e, q)) g.1, g.2 i f.0 f.1))))
+    (λ e. by_eq i j (λ q. ap Some q) (λ q. absurd (omega (arith, f.3 j (omega (arith, ltb-false i j e, q)) g.1, g.2 i f.0 f.1))))
 
 -- If it passes on as urgent as before, or didn't pass, only it can become the lead. It isn't as urgent as a later one.
 module _ (n : ℕ) (test test' : ℕ → Bool) (u u' : ℕ → ℕ) (i : ℕ) (l : i < n)
@@ -67,11 +64,11 @@ module _ (n : ℕ) (test test' : ℕ → Bool) (u u' : ℕ → ℕ) (i : ℕ) (l
 
   held : (r : Running) (a : Lead) → Leads u r a → Found n test u r → Held a
   unfolding lead_of against
-  held Idle a h f =
+  held None a h f =
       rw h.lead
       (by_bool (test' i)
       (λ e. (
-        Runs i,
+        Some i,
         rw (e, lt-ltb _ _ small) (leads_one u' i place),
         (
           l,
@@ -80,13 +77,13 @@ module _ (n : ℕ) (test test' : ℕ → Bool) (u u' : ℕ → ℕ) (i : ℕ) (l
           λ j x t. contra ((same j (λ q. omega arith)).0 ∙ t) (f j (omega arith)),
         ),
       ))
-      (λ e. (Idle, rw e (leads_nobody u'), λ j x. by_eq j i (λ q. rw q e) (λ q. sym (same j q).0 ∙ f j x))))
-  held (Runs k) a h f =
+      (λ e. (None, rw e (leads_nobody u'), λ j x. by_eq j i (λ q. rw q e) (λ q. sym (same j q).0 ∙ f j x))))
+  held (Some k) a h f =
       by_bool (test' i && ltb (u' i) a.urgency)
       (λ e.
       let b = both (test' i) _ e in
       let less : u' i < u k = rw h.lead at (ltb-true (u' i) a.urgency b.1) in (
-        Runs i,
+        Some i,
         rw e (leads_one u' i place),
         (
           l,
@@ -97,7 +94,7 @@ module _ (n : ℕ) (test test' : ℕ → Bool) (u u' : ℕ → ℕ) (i : ℕ) (l
       ))
       (λ e.
       let p = kept k f.1 in (
-        Runs k,
+        Some k,
         rw e (record { lead = h.lead ∙ rw p.1; who = h.who }),
         (
           f.0,
@@ -136,12 +133,12 @@ awake n (Delayed m) e = contra e refl
 abbrev GoesOn : Task → Turn → Type 0
 GoesOn t u = (runnable u.task ≡ true) × (u.task.current ≡ t.current) × (u.marks.started ≡ false)
 
-due_on : (p : ℕ) (t : Task) → runnable t ≡ true → (a : Bool) (b : Kept) → a ≡ true
+due_on : (p : ℕ) (t : Task) → runnable t ≡ true → (a : Bool) (b : Option ℕ) → a ≡ true
     → GoesOn t (due_if a b p t)
 unfolding due_if
 due_on p t e false b z = contra z refl
-due_on p t e true Empty z = (e, refl, refl)
-due_on p t e true (Back r) z = (e, refl, refl)
+due_on p t e true None z = (e, refl, refl)
+due_on p t e true (Some r) z = (e, refl, refl)
 
 fall_on : (n : Instant) (t : Task) → runnable t ≡ true → GoesOn t (fall_turn n t)
 unfolding fall_turn
@@ -196,10 +193,10 @@ module _ (ps : List ℕ) (ts : List Task) (c : ℕ) (f : length ts ≡ most_task
   unfolding running_of
   first e = scan_same c _ _ _ _ (λ i l. refl) (λ i l. nobody_late ps ts i) ∙ e
 
-  pub leading_none : running_of c ps ts ≡ Idle → {lead : Lead} → lead ≡ no_lead → Leading ps 0 ts c lead
+  pub leading_none : running_of c ps ts ≡ None → {lead : Lead} → lead ≡ no_lead → Leading ps 0 ts c lead
   leading_none e q = record { long = f; leads = rw (q, first e) (leads_nobody (order ps 0 ts)) }
 
-  pub leading_from : (j : ℕ) → running_of c ps ts ≡ Runs j → {none lead : Lead}
+  pub leading_from : (j : ℕ) → running_of c ps ts ≡ Some j → {none lead : Lead}
       → none ≡ no_lead → Weighed none true (most_places * (task_at ts j).current + place_at ps j) j lead → Leading ps 0 ts c lead
   unfolding against urgency_then
   leading_from j e z q =
@@ -238,6 +235,6 @@ pub leading_still : {ps : List ℕ} {late late' : ℕ} {ts ts' : List Task} {c :
     → Leading ps late ts c lead → ts' ≡ ts → late' ≡ late → lead' ≡ lead → Leading ps late' ts' c lead'
 leading_still h a m b = rw (a, m, b) h
 
-pub runs_below : (ps : List ℕ) (ts : List Task) (c j : ℕ) → running_of c ps ts ≡ Runs j → j < c
+pub runs_below : (ps : List ℕ) (ts : List Task) (c j : ℕ) → running_of c ps ts ≡ Some j → j < c
 unfolding running_of
 runs_below ps ts c j e = (most_urgent_at c _ _ j e).0

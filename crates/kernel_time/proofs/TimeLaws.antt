@@ -2,20 +2,18 @@
 use mathlib.Core.Path.{◌≡◌, refl, sym, ap, ◌∙◌}
 use Prim.Native.Nat.{ℕ, zero, suc, ◌≤◌}
 use Rattle.calendar.specs.Limits.{last_instant}
-use Rattle.calendar.specs.Moments.{instant_or}
+use Rattle.calendar.specs.Moments.{instant_or, Moment}
 use Rattle.calendar.specs.Times.{duration, plus}
 use Rattle.calendar.specs.declared.Instant.{Instant}
-use Rattle.calendar.specs.declared.Moment.{Moment}
 use mathlib.Core.Bool.{cond}
 use Rattle.layout.specs.Marks.{is}
 use Rattle.layout.specs.declared.Call.{Call}
 use Rattle.layout.specs.declared.Mark.{Mark}
 use Rattle.layout.specs.declared.Mark.TheVariants.{SL}
-use Rattle.machine.specs.declared.Running.{Running}
+use Rattle.machine.specs.Running.{Running, runner}
 use Rattle.machine.specs.declared.State.{State}
 use Rattle.machine.specs.declared.Stepped.{Stepped}
 use Rattle.machine.specs.declared.Sort.TheVariants.{EveryTask}
-use Rattle.machine.specs.Running.{runner}
 use Rattle.machine.specs.NextEvent.{next_event}
 use Rattle.machine.specs.Sorts.{sort_of}
 use Rattle.machine.specs.Refusals.{state_refusal}

@@ -19,9 +19,9 @@ ghost use Rattle.layout.specs.Marks.{is};
 ghost use Rattle.layout.specs.declared.Mark.TheVariants.{SL};
 ghost use Rattle.layout.specs.declared.Call.{Call};
 
-use calendar::{Duration, Instant, Moment};
+use calendar::{Duration, Instant, Moment, instant_or};
 use kernel_finish::finished;
-use kernel_next::{moment_of, sooner_due, sooner_end};
+use kernel_next::{sooner_due, sooner_end};
 use kernel_places::moved;
 use kernel_refusals::time_refusal;
 use kernel_sets::{Standing, put_if, put_marks};
@@ -36,11 +36,9 @@ use task::Hold;
 fn may_come(hold: Hold, start: Instant, continuation: Instant, n: Instant) -> bool
     ensures { result ≡ may_come hold start continuation n }
 {
-    let due = (start.0 == n.0) | (continuation.0 == n.0);
     match hold {
-        Hold::Unheld => due,
-        Hold::Suspended => due,
         Hold::Delayed(_) => true,
+        _ => (start == n) | (continuation == n),
     }
 }
 
@@ -57,7 +55,7 @@ fn arrival(mark: Mark, now: Instant, next: Moment) -> Instant
     ensures { result ≡ cond (is mark SL) (instant_or now next) (plus now (duration tick)) }
 {
     match mark {
-        Mark::SL => next.instant_or(now),
+        Mark::SL => instant_or(next, now),
         _ => now.plus(Duration(1)),
     }
 }
@@ -74,78 +72,55 @@ pub fn arrived(mut k: State, mark: Mark, r: Running) -> Stepped
     requires next_value { k.file.next ≡ next_event k }
     ensures { (c : Call) → result ≡ or_refuse k (state_refusal mark k c) (finish k (arrive k (arrival mark k))) }
 {
-    let now = k.now;
-    let file = k.file;
-    let next = file.next;
-    let number = time_refusal(mark, now, next);
-    if number != 0 {
-        return answered(k, number, r);
+    if let Err(refusal) = time_refusal(mark, k.now, k.file.next) {
+        return answered(k, refusal.number(), r);
     }
-    let n = arrival(mark, now, next);
-    let counts = k.counts;
-    let most = counts.tasks as usize;
+    let n = arrival(mark, k.now, k.file.next);
+    let most = k.counts.tasks;
     let mut s = no_sets();
     let mut altered = false;
     let mut turned = 0;
-    let mut soonest = 0;
+    let mut next = None;
     let mut lead = no_lead();
-    if let Running::Runs(j) = r {
+    if let Some(j) = r {
         let at = j as usize;
         lead = lead.against_if(true, k.tasks[at].current, k.places[at], at);
     }
-    for i in 0..most {
-        let t = k.tasks[i];
-        let hold = t.hold;
-        let schedule = t.schedule;
-        let alarm = schedule.alarm;
-        let continuation = t.continuation;
-        if may_come(hold, alarm.next, continuation.next, n) {
-            let whole = k.tasks[i];
-            let u = whole.tick(n);
+    // By number, since it names a task in its table, in places, sets and lead.
+    for i in 0..most as usize {
+        let alarm = k.tasks[i].schedule.alarm;
+        if may_come(k.tasks[i].hold, alarm.next, k.tasks[i].continuation.next, n) {
+            let t = k.tasks[i];
+            let u = t.tick(n);
             let after = u.task;
             k.tasks[i] = after;
             s = put_marks(i, u.marks, s);
-            let wait = after.wait;
-            altered = altered | is_altered(wait, whole.current, after.current);
+            altered = altered | is_altered(after.wait, t.current, after.current);
             let runs = after.is_runnable();
-            let late = whole.is_runnable() != runs;
+            let late = t.is_runnable() != runs;
             turned = put_if(i, late, turned);
             lead = lead.against_if(runs, after.current, place_if(late, k.places[i]), i);
         }
-        let t = k.tasks[i];
-        let hold = t.hold;
-        let schedule = t.schedule;
-        let alarm = schedule.alarm;
-        soonest = sooner_due(soonest, n, t.continuation);
-        soonest = sooner_end(sooner_due(soonest, n, alarm), n, hold);
+        next = sooner_due(next, n, k.tasks[i].continuation);
+        next = sooner_due(next, n, k.tasks[i].schedule.alarm);
+        next = sooner_end(next, n, k.tasks[i].hold);
     }
-    let next = moment_of(soonest);
-    let mut runner = lead.who();
+    let mut running = lead.who();
     if altered {
-        let z = finished(
-            k,
-            s,
-            Standing {
-                runnable: turned,
-                waiting: 0,
-            },
-            next,
-        );
-        let answer = z.answer;
+        let standing = Standing {
+            runnable: turned,
+            waiting: 0,
+        };
+        let z = finished(k, s, standing, next);
         k = z.state;
-        s = answer.sets;
-        runner = answer.running;
+        s = z.answer.sets;
+        running = z.answer.running;
     } else {
-        let places = moved(k.places, counts.tasks, turned);
-        k.places = places;
+        k.places = moved(k.places, most, turned);
     }
-    let file = OnFile {
-        running: runner,
-        next,
-    };
-    k.file = file;
+    k.file = OnFile { running, next };
     Stepped {
         state: begun_at(k, n),
-        answer: answer_of(0, runner, s),
+        answer: answer_of(0, running, s),
     }
 }

@@ -1,4 +1,5 @@
 -- The lead of a scan is that of the most urgent task, of those that pass a test.
+use Rattle.std.specs.Prelude.{None, Some}
 use mathlib.Core.Path.{◌≡◌, refl, ◌∙◌}
 use mathlib.Core.Bool.{Bool, true, false, and-false}
 use mathlib.Core.List.{List}
@@ -11,9 +12,7 @@ use Rattle.task.specs.State.{runnable}
 use Rattle.task.specs.declared.Task.{Task}
 use Rattle.machine.specs.State.{most_tasks, task_at}
 use Rattle.machine.specs.Sets.{holds}
-use Rattle.machine.specs.Running.{urgency, better, most_urgent}
-use Rattle.machine.specs.declared.Running.{Running}
-use Rattle.machine.specs.declared.Running.TheVariants.{Idle, Runs}
+use Rattle.machine.specs.Running.{urgency, better, most_urgent, Running}
 use Rattle.machine.proofs.SetLaws.{has_empty}
 use Rattle.kernel_urgency.specs.Leads.{nobody, no_lead, lead_of, against, Weighed, whose, Leads, urgency_then}
 use Rattle.kernel_urgency.specs.declared.scan.Lead.{Lead}
@@ -24,11 +23,11 @@ Led n test u l = Leads u (most_urgent n test u) l
 
 -- ---- one more task
 
-pub leads_nobody : (u : ℕ → ℕ) → Leads u Idle no_lead
+pub leads_nobody : (u : ℕ → ℕ) → Leads u None no_lead
 unfolding lead_of whose
 leads_nobody u = record { lead = refl; who = refl }
 
-pub leads_one : (u : ℕ → ℕ) (i : ℕ) → i < most_tasks → Leads u (Runs i) (record { urgency = u i; task = i })
+pub leads_one : (u : ℕ → ℕ) (i : ℕ) → i < most_tasks → Leads u (Some i) (record { urgency = u i; task = i })
 unfolding lead_of whose
 leads_one u i p = record { lead = refl; who = rw (lt-leb _ _ p) }
 
@@ -39,8 +38,8 @@ led_none test u e = rw e (leads_nobody u)
 -- A task that counts is held against the lead.
 leads_better : (u : ℕ → ℕ) (i : ℕ) → i < most_tasks → u i < nobody → (r : Running) (l : Lead) → Leads u r l → Leads u (better u r i) (against l true (u i) i)
 unfolding lead_of against
-leads_better u i p b Idle l h = rw (h.lead, lt-ltb _ _ b) (leads_one u i p)
-leads_better u i p b (Runs j) l h =
+leads_better u i p b None l h = rw (h.lead, lt-ltb _ _ b) (leads_one u i p)
+leads_better u i p b (Some j) l h =
     by_bool (ltb (u i) (u j)) (λ e. rw (h.lead, e) (leads_one u i p)) (λ e. rw (h.lead, e) (rw h.lead at h))
 
 module _ (test : ℕ → Bool) (u : ℕ → ℕ) (i : ℕ) where

@@ -1,10 +1,8 @@
 -- The task that leads a scan, and how urgent it is.
-use Rattle.std.specs.Prelude.{◌≡◌, Bool, cond, ◌&&◌, List, ℕ, ◌+◌, ◌*◌, ◌<◌, leb, ltb}
+use Rattle.std.specs.Prelude.{None, Some, ◌≡◌, Bool, cond, ◌&&◌, List, ℕ, ◌+◌, ◌*◌, ◌<◌, leb, ltb}
 use Rattle.task.specs.declared.Task.{Task}
 use Rattle.machine.specs.State.{most_tasks, task_at, place_at}
-use Rattle.machine.specs.Running.{most_places}
-use Rattle.machine.specs.declared.Running.{Running}
-use Rattle.machine.specs.declared.Running.TheVariants.{Idle, Runs}
+use Rattle.machine.specs.Running.{most_places, Running}
 use Rattle.kernel_urgency.specs.declared.scan.Lead.{Lead}
 
 -- More than the urgency of any task: 256 * 255 + 255 is the largest.
@@ -26,12 +24,12 @@ pub record Weighed (l : Lead) (counts : Bool) (u i : ℕ) (r : Lead) : Type 0 wh
 
 -- Who leads.
 unfoldable pub whose : Lead → Running
-whose l = cond (leb most_tasks l.task) Idle (Runs l.task)
+whose l = cond (leb most_tasks l.task) None (Some l.task)
 
 -- The lead of whom a scan has found, by the urgencies u.
 unfoldable pub lead_of : (ℕ → ℕ) → Running → Lead
-lead_of u Idle = no_lead
-lead_of u (Runs i) = record { urgency = u i; task = i }
+lead_of u None = no_lead
+lead_of u (Some i) = record { urgency = u i; task = i }
 
 pub record Leads (u : ℕ → ℕ) (r : Running) (l : Lead) : Type 0 where
   pub lead : l ≡ lead_of u r

@@ -64,9 +64,9 @@ impl Lead {
         ensures { result ≡ whose self }
     {
         if MOST_TASKS <= self.task {
-            return Running::Idle;
+            return None;
         }
-        Running::Runs(self.task as u8)
+        Some(self.task as u8)
     }
 }
 
@@ -88,11 +88,5 @@ pub fn place_if(late: bool, place: u8) -> u8
 pub fn can_run(alive: bool, wait: Wait, hold: Hold) -> bool
     ensures { result ≡ (alive && unheld hold && not (waiting wait)) }
 {
-    if !alive {
-        return false;
-    }
-    if is_waiting(wait) {
-        return false;
-    }
-    hold.is_unheld()
+    alive && !is_waiting(wait) && hold.is_unheld()
 }

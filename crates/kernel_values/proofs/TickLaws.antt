@@ -1,4 +1,5 @@
 -- Quiet ticks, and the bytes of a tick.
+use Rattle.std.specs.Prelude.{None, Some}
 use mathlib.Core.Path.{◌≡◌, refl}
 use mathlib.Core.Bool.{Bool, true, false, ◌&&◌}
 use mathlib.Core.List.{List, [], ◌∷◌}
@@ -8,10 +9,8 @@ use lib.Dec.{eqb, ltb}
 use lib.ListN.{length, get_or, drop, replicate}
 use borrow.Author.Tests.{ne_eqb, eqb-true, ltb-true, ltb-false, lt-ltb, le-ltb}
 use Rattle.calendar.specs.Limits.{last_instant}
-use Rattle.calendar.specs.Moments.{capped_at}
+use Rattle.calendar.specs.Moments.{capped_at, Moment}
 use Rattle.calendar.specs.declared.Instant.{Instant}
-use Rattle.calendar.specs.declared.Moment.{Moment}
-use Rattle.calendar.specs.declared.Moment.TheVariants.{Never, At}
 use Rattle.layout.specs.Fields.{record_length, bytes_of}
 use Rattle.layout.specs.Marks.{code}
 use Rattle.layout.specs.declared.Mark.TheVariants.{TI}
@@ -25,10 +24,10 @@ use Rattle.kernel_values.specs.Ticks.{is_tick, is_quiet}
 -- The test by one number: the next event, but at most the instant behind the last.
 pub quiet_is : (n : Instant) (next : Moment) → ltb (n.0 + 1) (capped_at (last_instant + 1) next) ≡ is_quiet n next
 unfolding is_quiet
-quiet_is n Never =
+quiet_is n None =
     by_bool (ltb n.0 last_instant) (λ e. rw (e, lt-ltb (n.0 + 1) (last_instant + 1) (omega (arith, ltb-true n.0 last_instant e))))
     (λ e. rw (e, le-ltb (n.0 + 1) (last_instant + 1) (omega (arith, ltb-false n.0 last_instant e))))
-quiet_is n (At m) =
+quiet_is n (Some m) =
     by_bool (ltb n.0 last_instant)
     (λ e. by_bool (ltb m.0 (last_instant + 1)) (λ f. rw (e, f))
     (λ f. rw (e, f, lt-ltb (n.0 + 1) (last_instant + 1) (omega (arith, ltb-true n.0 last_instant e)), lt-ltb (n.0 + 1) m.0 (omega (arith, ltb-true n.0 last_instant e, ltb-false m.0 (last_instant + 1) f)))))
@@ -63,19 +62,3 @@ tick_bytes (x ∷ y ∷ s) e =
     let r = both (eqb (length (x ∷ y ∷ s)) record_length) (eqb x letter_t) q.0 in
     let l : length s ≡ record_length - 2 = omega (arith, eqb-true (length (x ∷ y ∷ s)) record_length r.0) in
     rw (eqb-true x letter_t r.1, eqb-true y letter_i q.1, zeros_are (record_length - 2) s l p.1) refl
-
--- By its tests.
-module _ (s : List ℕ) where
-  pub tick_short : (length s ≡ record_length → ⊥) → false ≡ is_tick s
-  tick_short n = rw (ne_eqb (length s) record_length n)
-
-  module _ (e : length s ≡ record_length) where
-    pub tick_first : (get_or s 0 0 ≡ letter_t → ⊥) → false ≡ is_tick s
-    tick_first n = rw (e, ne_eqb (get_or s 0 0) letter_t n)
-
-    module _ (f : get_or s 0 0 ≡ letter_t) where
-      pub tick_second : (get_or s 1 0 ≡ letter_i → ⊥) → false ≡ is_tick s
-      tick_second n = rw (e, f, ne_eqb (get_or s 1 0) letter_i n)
-
-      pub tick_rest : get_or s 1 0 ≡ letter_i → {z : Bool} → z ≡ all_zero (drop 2 s) → z ≡ is_tick s
-      tick_rest g h = rw (e, f, g, h)

@@ -1,7 +1,7 @@
 -- A name for a contract: an answer by its parts.
 use Rattle.std.specs.Prelude.{ℕ}
 use Rattle.machine.specs.declared.Answer.{Answer}
-use Rattle.machine.specs.declared.Running.{Running}
+use Rattle.machine.specs.Running.{Running}
 use Rattle.machine.specs.declared.Sets.{Sets}
 
 abbrev pub answer_of : ℕ → Running → Sets → Answer

@@ -2,9 +2,8 @@
 use Rattle.std.specs.Prelude.{Bool, ◌&&◌, List, ℕ, ◌/◌, ◌%◌, eqb, ltb, length, drop}
 use Rattle.calendar.specs.Limits.{tick, last_instant}
 use Rattle.calendar.specs.Times.{duration, plus}
-use Rattle.calendar.specs.Moments.{earlier_than}
+use Rattle.calendar.specs.Moments.{earlier_than, Moment}
 use Rattle.calendar.specs.declared.Instant.{Instant}
-use Rattle.calendar.specs.declared.Moment.{Moment}
 use Rattle.layout.specs.Fields.{record_length, byte}
 use Rattle.layout.specs.Marks.{code}
 use Rattle.layout.specs.declared.Mark.TheVariants.{TI}

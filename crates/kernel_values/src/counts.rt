@@ -1,10 +1,10 @@
 // Counts of tasks, of the numbers of a list, and of what a list can name.
-ghost use Rattle.std.specs.Prelude.{◌≡◌, ◌≤◌, min, ltb, take};
+ghost use Rattle.std.specs.Prelude.{◌≡◌, min, ltb};
 ghost use Rattle.layout.specs.Fields.{most_numbers};
 ghost use Rattle.lists.specs.Lists.{every};
 ghost use Rattle.machine.specs.State.{most_tasks, count_of};
 
-use layout::{MOST_NUMBERS, Numbers};
+use layout::MOST_NUMBERS;
 use lock::Wait;
 use machine::{Counts, MOST_TASKS};
 
@@ -12,22 +12,14 @@ use machine::{Counts, MOST_TASKS};
 pub fn in_table(n: u8) -> usize
     ensures { result ≡ min n most_tasks }
 {
-    if n < MOST_TASKS {
-        n as usize
-    } else {
-        MOST_TASKS as usize
-    }
+    n.min(MOST_TASKS) as usize
 }
 
 // The length of a list, but at most the numbers that there is room for.
 pub fn in_list(len: u8) -> usize
     ensures { result ≡ min len most_numbers }
 {
-    if len < MOST_NUMBERS {
-        len as usize
-    } else {
-        MOST_NUMBERS as usize
-    }
+    len.min(MOST_NUMBERS) as usize
 }
 
 // How many numbers a list of a kind can name.
@@ -37,20 +29,13 @@ pub fn count_of(n: Counts, w: Wait) -> u8
     match w {
         Wait::Nothing => 0,
         Wait::Request => n.semaphores,
-        Wait::Reserve => n.bolts,
-        Wait::Enter => n.bolts,
+        Wait::Reserve | Wait::Enter => n.bolts,
     }
 }
 
-// Whether each of the first n numbers of a list is below a count.
-pub fn are_below(list: Numbers, n: usize, most: u8) -> bool
-    requires { n ≤ most_numbers }
-    ensures { result ≡ every (λ x. ltb x most) (take n list) }
+// Whether each number of a list is below a count.
+pub fn are_below(list: &[u8], most: u8) -> bool
+    ensures { result ≡ every (λ x. ltb x most) list.now }
 {
-    for j in 0..n {
-        if most <= list[j] {
-            return false;
-        }
-    }
-    true
+    list.iter().all(|&x| x < most)
 }

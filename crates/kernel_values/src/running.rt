@@ -9,31 +9,19 @@ use machine::Running;
 pub fn is_someone(r: Running) -> bool
     ensures { result ≡ someone r }
 {
-    match r {
-        Running::Idle => false,
-        Running::Runs(_) => true,
-    }
+    r.is_some()
 }
 
 // Whether two say the same: the same task, or none.
 pub fn is_same(a: Running, b: Running) -> bool
     ensures { result ≡ same_running a b }
 {
-    match a {
-        Running::Idle => !is_someone(b),
-        Running::Runs(i) => match b {
-            Running::Idle => false,
-            Running::Runs(j) => i == j,
-        },
-    }
+    a == b
 }
 
 // The running task, or task 0 where nobody runs.
 pub fn runner_at(r: Running) -> usize
     ensures { result ≡ runner_at r }
 {
-    match r {
-        Running::Idle => 0,
-        Running::Runs(i) => i as usize,
-    }
+    r.unwrap_or(0) as usize
 }

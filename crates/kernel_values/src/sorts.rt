@@ -28,15 +28,7 @@ pub fn sort_of(mark: Mark) -> Sort
 pub fn is_declaring(sort: Sort) -> bool
     ensures { result ≡ declaring sort }
 {
-    match sort {
-        Sort::Declaration => true,
-        Sort::OneTask => false,
-        Sort::TheRunner => false,
-        Sort::ListAsked(_, _) => false,
-        Sort::ListGiven(_) => false,
-        Sort::AnInterrupt => false,
-        Sort::EveryTask => false,
-    }
+    matches!(sort, Sort::Declaration)
 }
 
 // What kind of list a call of a sort asks for.
@@ -44,12 +36,7 @@ pub fn asked_kind(sort: Sort) -> Wait
     ensures { result ≡ asked_kind sort }
 {
     match sort {
-        Sort::Declaration => Wait::Nothing,
-        Sort::OneTask => Wait::Nothing,
-        Sort::TheRunner => Wait::Nothing,
         Sort::ListAsked(w, _) => w,
-        Sort::ListGiven(_) => Wait::Nothing,
-        Sort::AnInterrupt => Wait::Nothing,
-        Sort::EveryTask => Wait::Nothing,
+        _ => Wait::Nothing,
     }
 }

@@ -3,7 +3,7 @@ ghost use Rattle.std.specs.Prelude.{◌≡◌, ◌≤◌};
 ghost use Rattle.calendar.specs.Limits.{last_instant};
 ghost use Rattle.kernel_values.specs.Ticks.{is_tick, is_quiet};
 
-use calendar::{Instant, LAST_INSTANT, Moment};
+use calendar::{Instant, LAST_INSTANT, Moment, capped_at};
 use layout::RECORD_LENGTH;
 use lists::zeros;
 
@@ -11,16 +11,7 @@ use lists::zeros;
 pub fn is_tick(s: &[u8]) -> bool
     ensures { result ≡ is_tick s.now }
 {
-    if s.len() != RECORD_LENGTH {
-        return false;
-    }
-    if s[0] != b'T' {
-        return false;
-    }
-    if s[1] != b'I' {
-        return false;
-    }
-    zeros(&s[2..])
+    s.len() == RECORD_LENGTH && s[0] == b'T' && s[1] == b'I' && zeros(&s[2..])
 }
 
 // Whether a tick at this instant is accepted, and arrives before the next event.
@@ -28,5 +19,5 @@ pub fn is_quiet(now: Instant, next: Moment) -> bool
     requires { now.0 ≤ last_instant }
     ensures { result ≡ is_quiet now next }
 {
-    now.0 + 1 < next.capped_at(LAST_INSTANT + 1)
+    now.0 + 1 < capped_at(next, LAST_INSTANT + 1)
 }

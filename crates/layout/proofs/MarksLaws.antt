@@ -1,4 +1,5 @@
 -- The marks by their letters and by their places in the code's enum.
+use Rattle.std.specs.Prelude.{Some}
 use mathlib.Core.Path.{◌≡◌, refl, sym, ◌∙◌, ap}
 use mathlib.Core.Bool.{Bool, true, false, cond, ◌&&◌}
 use mathlib.Core.Logic.{inl, inr}
@@ -8,17 +9,16 @@ use lib.ListN.{length, get_or, drop, replicate}
 use types.Run.{OneOf}
 use lib.Dec.{eqb}
 use native.Mathlib.Omega.{arith}
-use borrow.Author.Tests.{ne_eqb, eqb-true}
+use borrow.Author.Tests.{eqb-true}
 use denote.Enum.Declared.{tag_of}
 use Rattle.layout.specs.declared.Mark.{Mark}
 use Rattle.layout.specs.declared.Mark.TheVariants.{DT, DS, DB, IT, DC, AC, TE, SU, PR, CO, EN, RE, RQ, RL, TR, RS, FR, ET, LV, TG, EI, XI, TI, SL}
-use Rattle.layout.specs.declared.Marked.TheVariants.{Unknown, Known}
 use Rattle.layout.specs.Marks.{code, is, marks, among, mark_of}
 use Rattle.facts.proofs.Bools.{both}
 use Rattle.layout.specs.contracts.Mark as MarkT
 
 -- Each mark is the only one with its letters, and stands at its place in the list.
-found : (m : Mark) → (mark_of (code m) ≡ Known m) × (get_or marks (tag_of MarkT.the_type m) DT ≡ m)
+found : (m : Mark) → (mark_of (code m) ≡ Some m) × (get_or marks (tag_of MarkT.the_type m) DT ≡ m)
 unfolding among
 found DT = (refl, refl)
 found DS = (refl, refl)
@@ -46,13 +46,13 @@ found TI = (refl, refl)
 found SL = (refl, refl)
 
 -- What bears a mark's letters is that mark.
-pub known : (m : Mark) {n : ℕ} → n ≡ code m → Known m ≡ mark_of n
+pub known : (m : Mark) {n : ℕ} → n ≡ code m → Some m ≡ mark_of n
 known m e = sym (ap mark_of e ∙ (found m).0)
 
 -- A mark is told by its letters.
 pub is_mark : (m n : Mark) → is m n ≡ true → m ≡ n
 is_mark m n e =
-    let q : Known m ≡ Known n = sym (found m).0 ∙ ap mark_of (eqb-true (code m) (code n) e) ∙ (found n).0 in
+    let q : Some m ≡ Some n = sym (found m).0 ∙ ap mark_of (eqb-true (code m) (code n) e) ∙ (found n).0 in
     cc
 
 -- A test of every mark in the list.
@@ -92,29 +92,14 @@ module _ {A : Type 0} (f : Mark → A) {a : A} (m : Mark) where
 
 -- ---- letters
 
--- A number is the letters of none of these marks: as the arms of a match leave it, behind what is known before.
-abbrev pub NoneOf : List Mark → ℕ → Type 0 → Type 0
-NoneOf [] n A = A
-NoneOf (m ∷ ms) n A = NoneOf ms n (A × (n ≡ code m → ⊥))
-
-none_of : (ms : List Mark) (n : ℕ) (A : Type 0) → NoneOf ms n A → (among ms n ≡ Unknown) × A
-unfolding among
-none_of [] n A a = (refl, a)
-none_of (m ∷ ms) n A r =
-    let (e, (a, ne)) = none_of ms n (A × (n ≡ code m → ⊥)) r in
-    (rw (ne_eqb n (code m) ne) e, a)
-
-pub unknown : (n : ℕ) → NoneOf marks n Unit → Unknown ≡ mark_of n
-unknown n r = sym (none_of marks n Unit r).0
-
 -- A mark that is found bears the letters.
-among_code : (ms : List Mark) (n : ℕ) (m : Mark) → among ms n ≡ Known m → n ≡ code m
+among_code : (ms : List Mark) (n : ℕ) (m : Mark) → among ms n ≡ Some m → n ≡ code m
 unfolding among
 among_code [] n m e = let z : ◌≡◌ {A = ℕ} 0 1 = cc in absurd (omega arith)
 among_code (x ∷ ms) n m e = first (eqb n (code x)) refl (among_code ms n m) e where
-  first : (b : Bool) → eqb n (code x) ≡ b → (among ms n ≡ Known m → n ≡ code m) → cond b (Known x) (among ms n) ≡ Known m → n ≡ code m
+  first : (b : Bool) → eqb n (code x) ≡ b → (among ms n ≡ Some m → n ≡ code m) → cond b (Some x) (among ms n) ≡ Some m → n ≡ code m
   first true t later k = let same : x ≡ m = cc in eqb-true n (code x) t ∙ ap code same
   first false t later k = later k
 
-pub found_code : {n : ℕ} {m : Mark} → mark_of n ≡ Known m → n ≡ code m
+pub found_code : {n : ℕ} {m : Mark} → mark_of n ≡ Some m → n ≡ code m
 found_code {n} {m} e = among_code marks n m e

@@ -1,9 +1,7 @@
 -- The marks, and what follows each of them (document 01, "Records").
-use Rattle.std.specs.Prelude.{Bool, cond, List, [], ◌∷◌, ℕ, eqb}
+use Rattle.std.specs.Prelude.{Option, None, Some, Bool, cond, List, [], ◌∷◌, ℕ, eqb}
 use Rattle.layout.specs.declared.Mark.{Mark}
 use Rattle.layout.specs.declared.Mark.TheVariants.{DT, DS, DB, IT, DC, AC, TE, SU, PR, CO, EN, RE, RQ, RL, TR, RS, FR, ET, LV, TG, EI, XI, TI, SL}
-use Rattle.layout.specs.declared.Marked.{Marked}
-use Rattle.layout.specs.declared.Marked.TheVariants.{Unknown, Known}
 use Rattle.layout.specs.declared.Form.{Form}
 use Rattle.layout.specs.declared.Form.TheVariants.{Bare, Number, Continuation, DeclaredPriority, Preset, TimeOfDay, Resumption, Activation, Numbers, OneNumber}
 
@@ -42,12 +40,12 @@ abbrev pub marks : List Mark
 marks =
     DT ∷ DS ∷ DB ∷ IT ∷ DC ∷ AC ∷ TE ∷ SU ∷ PR ∷ CO ∷ EN ∷ RE ∷ RQ ∷ RL ∷ TR ∷ RS ∷ FR ∷ ET ∷ LV ∷ TG ∷ EI ∷ XI ∷ TI ∷ SL ∷ []
 
-unfoldable pub among : List Mark → ℕ → Marked
-among [] n = Unknown
-among (m ∷ ms) n = cond (eqb n (code m)) (Known m) (among ms n)
+unfoldable pub among : List Mark → ℕ → Option Mark
+among [] n = None
+among (m ∷ ms) n = cond (eqb n (code m)) (Some m) (among ms n)
 
 -- The mark whose letters are n, if there is one.
-abbrev pub mark_of : ℕ → Marked
+abbrev pub mark_of : ℕ → Option Mark
 mark_of n = among marks n
 
 -- What follows a mark: which fields it uses.

@@ -18,9 +18,8 @@ fn double(high: u16, low: u16) -> u32
     high as u32 * 0x10000 + low as u32
 }
 
-// The letters of a mark, the first in the high byte. Whoever reads fields has tested the length.
-pub fn letters_at(s: &[u8]) -> u16
-    requires { length s.now ≡ record_length }
+// The letters of a mark, the first in the high byte.
+pub fn letters_at(s: &Bytes) -> u16
     ensures { result ≡ letters s.now }
 {
     pair(s[0], s[1])
@@ -34,8 +33,8 @@ fn word_at(s: &[u8], i: usize) -> u32
     double(pair(s[i], s[i + 1]), pair(s[i + 2], s[i + 3]))
 }
 
-pub fn head_at(s: &[u8], mark: Mark) -> Head
-    requires { length s.now ≡ record_length }
+#[tactic(auto, unfolding(crate::specs::Fields::head_of))]
+pub fn head_at(s: &Bytes, mark: Mark) -> Head
     ensures { result ≡ head_of mark s.now }
 {
     Head {
@@ -52,8 +51,8 @@ pub fn head_at(s: &[u8], mark: Mark) -> Head
     }
 }
 
-pub fn list_at(s: &[u8]) -> Numbers
-    requires { length s.now ≡ record_length }
+#[tactic(auto, unfolding(crate::specs::Fields::list_of))]
+pub fn list_at(s: &Bytes) -> Numbers
     ensures { result ≡ list_of s.now }
 {
     [s[5], s[6], s[7], s[8]]
@@ -76,8 +75,7 @@ pub fn bytes_of(c: Call) -> Bytes
 {
     let h = c.head;
     let l = c.list;
-    let mark = h.mark;
-    let letters = code_of(mark);
+    let letters = code_of(h.mark);
     let f = bytes_of_word(h.first);
     let p = bytes_of_word(h.period);
     let e = bytes_of_word(h.endtime);

@@ -35,12 +35,6 @@ pub enum Mark {
     SL,
 }
 
-#[derive(Clone, Copy)]
-pub enum Marked {
-    Unknown,
-    Known(Mark),
-}
-
 // What follows a mark: which fields it uses.
 #[derive(Clone, Copy)]
 pub enum Form {
@@ -56,7 +50,8 @@ pub enum Form {
     OneNumber,
 }
 
-// A call or declaration without its list: every field of a record as it stands there.
+// A call or declaration without its list: every field of a record as it stands there. Kinds are bytes, since one that
+// is no kind has to reach the tests of refusal 3 (`formed`).
 #[derive(Clone, Copy)]
 pub struct Head {
     pub mark: Mark,

@@ -1,8 +1,9 @@
 // Marks: their letters, and what follows them.
+// Letters that are no mark have None, where TryFrom would add an error type of one value.
 ghost use Rattle.std.specs.Prelude.{◌≡◌};
 ghost use Rattle.layout.specs.Marks.{code, mark_of, form};
 
-use crate::{Form, Mark, Marked};
+use crate::{Form, Mark};
 
 // A mark's letters, the first in the high byte.
 pub fn code_of(mark: Mark) -> u16
@@ -37,35 +38,36 @@ pub fn code_of(mark: Mark) -> u16
 }
 
 // The mark with these letters, if there is one.
-pub fn mark_of(letters: u16) -> Marked
+#[tactic(auto, unfolding(crate::specs::Marks::among))]
+pub fn mark_of(letters: u16) -> Option<Mark>
     ensures { result ≡ mark_of letters }
 {
     match letters {
-        0x4454 => Marked::Known(Mark::DT),
-        0x4453 => Marked::Known(Mark::DS),
-        0x4442 => Marked::Known(Mark::DB),
-        0x4954 => Marked::Known(Mark::IT),
-        0x4443 => Marked::Known(Mark::DC),
-        0x4143 => Marked::Known(Mark::AC),
-        0x5445 => Marked::Known(Mark::TE),
-        0x5355 => Marked::Known(Mark::SU),
-        0x5052 => Marked::Known(Mark::PR),
-        0x434f => Marked::Known(Mark::CO),
-        0x454e => Marked::Known(Mark::EN),
-        0x5245 => Marked::Known(Mark::RE),
-        0x5251 => Marked::Known(Mark::RQ),
-        0x524c => Marked::Known(Mark::RL),
-        0x5452 => Marked::Known(Mark::TR),
-        0x5253 => Marked::Known(Mark::RS),
-        0x4652 => Marked::Known(Mark::FR),
-        0x4554 => Marked::Known(Mark::ET),
-        0x4c56 => Marked::Known(Mark::LV),
-        0x5447 => Marked::Known(Mark::TG),
-        0x4549 => Marked::Known(Mark::EI),
-        0x5849 => Marked::Known(Mark::XI),
-        0x5449 => Marked::Known(Mark::TI),
-        0x534c => Marked::Known(Mark::SL),
-        _ => Marked::Unknown,
+        0x4454 => Some(Mark::DT),
+        0x4453 => Some(Mark::DS),
+        0x4442 => Some(Mark::DB),
+        0x4954 => Some(Mark::IT),
+        0x4443 => Some(Mark::DC),
+        0x4143 => Some(Mark::AC),
+        0x5445 => Some(Mark::TE),
+        0x5355 => Some(Mark::SU),
+        0x5052 => Some(Mark::PR),
+        0x434f => Some(Mark::CO),
+        0x454e => Some(Mark::EN),
+        0x5245 => Some(Mark::RE),
+        0x5251 => Some(Mark::RQ),
+        0x524c => Some(Mark::RL),
+        0x5452 => Some(Mark::TR),
+        0x5253 => Some(Mark::RS),
+        0x4652 => Some(Mark::FR),
+        0x4554 => Some(Mark::ET),
+        0x4c56 => Some(Mark::LV),
+        0x5447 => Some(Mark::TG),
+        0x4549 => Some(Mark::EI),
+        0x5849 => Some(Mark::XI),
+        0x5449 => Some(Mark::TI),
+        0x534c => Some(Mark::SL),
+        _ => None,
     }
 }
 

@@ -1,8 +1,8 @@
 -- Lines as they are printed, computed.
+use Rattle.std.specs.Prelude.{Some}
 use mathlib.Core.Path.{◌≡◌, refl}
 use native.Mathlib.Omega.{arith}
 use Rattle.layout.specs.Letters.{ascii}
-use Rattle.machine.specs.declared.Running.TheVariants.{Runs}
 use Rattle.lines.specs.Decimals.{spelt, decimal}
 use Rattle.lines.specs.Lines.{running_text, sets_text, line}
 use Rattle.lines.specs.Printed.{answer_with, LinesPrinted}
@@ -25,7 +25,7 @@ last : decimal 31 ≡ ascii "31"
 unfolding ascii decimal spelt
 last = refl
 
-long_line : line (answer_with 0 (Runs 31) 0 2147483648 0 0 4294967295) ≡ ascii "0 31 0 2147483648 0 0 4294967295\n"
+long_line : line (answer_with 0 (Some 31) 0 2147483648 0 0 4294967295) ≡ ascii "0 31 0 2147483648 0 0 4294967295\n"
 unfolding ascii line sets_text running_text
 long_line = rw (half, all, none, last)
 

@@ -1,4 +1,5 @@
 -- Lines: how long, and read back.
+use Rattle.std.specs.Prelude.{None, Some}
 use mathlib.Core.Path.{◌≡◌, refl, sym, ◌∙◌, ap}
 use mathlib.Core.Bool.{true}
 use mathlib.Core.List.{List, [], ◌∷◌, ◌++◌, append_assoc}
@@ -9,8 +10,7 @@ use lib.ListN.{length, length-append}
 use borrow.Author.Tests.{leb-true}
 use Rattle.machine.specs.Sets.{Set, Due, Started, Ended, Lost, Granted, members}
 use Rattle.machine.specs.declared.Answer.{Answer}
-use Rattle.machine.specs.declared.Running.{Running}
-use Rattle.machine.specs.declared.Running.TheVariants.{Idle, Runs}
+use Rattle.machine.specs.Running.{Running}
 use Rattle.facts.proofs.Bools.{both}
 use Rattle.lines.specs.Decimals.{spelt, decimal, value, is_digit, all_digits}
 use Rattle.lines.specs.Lines.{space, dash, line_feed, running_text, sets_text, line, RunningByte, NoLineLonger, LinesReadBack}
@@ -20,8 +20,8 @@ use Rattle.lines.proofs.DecimalLaws.{printed_reads_back, digits_alone, byte_long
 
 pub running_long : (r : Running) → RunningByte r → length (running_text r) ≤ 3
 unfolding running_text
-running_long Idle h = omega arith
-running_long (Runs i) h = byte_long i h
+running_long None h = omega arith
+running_long (Some i) h = byte_long i h
 
 pub no_line_longer : NoLineLonger
 unfolding line sets_text
@@ -64,8 +64,8 @@ same_number m n e = sym (printed_reads_back m) ∙ ap value e ∙ printed_reads_
 
 running_without : (r : Running) → Without space (running_text r)
 unfolding running_text
-running_without Idle = ((λ e. omega arith), tt)
-running_without (Runs i) = decimal_without space i (omega arith)
+running_without None = ((λ e. omega arith), tt)
+running_without (Some i) = decimal_without space i (omega arith)
 
 -- A dash is no number.
 no_dash : (i : ℕ) → decimal i ≡ dash ∷ [] → ⊥
@@ -73,10 +73,10 @@ no_dash i e = let w = decimal_without dash i (omega arith) in (rw e at w).0 refl
 
 same_running_law : (p q : Running) → running_text p ≡ running_text q → p ≡ q
 unfolding running_text
-same_running_law Idle Idle e = refl
-same_running_law Idle (Runs j) e = absurd (no_dash j (sym e))
-same_running_law (Runs i) Idle e = absurd (no_dash i e)
-same_running_law (Runs i) (Runs j) e = ap Runs (same_number i j e)
+same_running_law None None e = refl
+same_running_law None (Some j) e = absurd (no_dash j (sym e))
+same_running_law (Some i) None e = absurd (no_dash i e)
+same_running_law (Some i) (Some j) e = ap Some (same_number i j e)
 
 -- A decimal, a byte that is none of its digits, and a rest.
 past : (b : ℕ) → b < 48 → (m n : ℕ) (r s : List ℕ) → decimal m ++ b ∷ r ≡ decimal n ++ b ∷ s → (m ≡ n) × (r ≡ s)
@@ -89,7 +89,7 @@ answer n r d s e l g =
     record { number = n; running = r; sets = record { due = d; started = s; ended = e; lost = l; granted = g } }
 
 -- 0 - 1 12 0 0 0
-example : line (answer 0 Idle 1 12 0 0 0) ≡ 48 ∷ 32 ∷ 45 ∷ 32 ∷ 49 ∷ 32 ∷ 49 ∷ 50 ∷ 32 ∷ 48 ∷ 32 ∷ 48 ∷ 32 ∷ 48 ∷ 10 ∷ []
+example : line (answer 0 None 1 12 0 0 0) ≡ 48 ∷ 32 ∷ 45 ∷ 32 ∷ 49 ∷ 32 ∷ 49 ∷ 50 ∷ 32 ∷ 48 ∷ 32 ∷ 48 ∷ 32 ∷ 48 ∷ 10 ∷ []
 unfolding answer line sets_text running_text decimal spelt
 example = refl
 

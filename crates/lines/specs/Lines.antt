@@ -1,10 +1,9 @@
 -- The line of an answer: number, running task, and the five sets.
-use Rattle.std.specs.Prelude.{◌≡◌, List, [], ◌∷◌, ◌++◌, ℕ, ◌^◌, ◌≤◌, ◌<◌, length}
+use Rattle.std.specs.Prelude.{None, Some, ◌≡◌, List, [], ◌∷◌, ◌++◌, ℕ, ◌^◌, ◌≤◌, ◌<◌, length}
 use Rattle.machine.specs.Sets.{Set, members}
 use Rattle.machine.specs.declared.Answer.{Answer}
 use Rattle.machine.specs.declared.Sets.{Sets}
-use Rattle.machine.specs.declared.Running.{Running}
-use Rattle.machine.specs.declared.Running.TheVariants.{Idle, Runs}
+use Rattle.machine.specs.Running.{Running}
 use Rattle.lines.specs.Decimals.{decimal}
 
 abbrev pub space : ℕ
@@ -18,8 +17,8 @@ line_feed = 10
 
 -- A dash for none.
 unfoldable pub running_text : Running → List ℕ
-running_text Idle = dash ∷ []
-running_text (Runs i) = decimal i
+running_text None = dash ∷ []
+running_text (Some i) = decimal i
 
 -- Five numbers, each after a space, and a line feed.
 unfoldable pub sets_text : Sets → List ℕ
@@ -42,8 +41,8 @@ longest_line = 63
 -- ---- the values of the code
 
 abbrev pub RunningByte : Running → Type 0
-RunningByte Idle = Unit
-RunningByte (Runs i) = i < 2 ^ 8
+RunningByte None = Unit
+RunningByte (Some i) = i < 2 ^ 8
 
 -- Number and task are bytes, and each set is a word.
 pub record InTypes (a : Answer) : Type 0 where

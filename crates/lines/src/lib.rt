@@ -29,6 +29,7 @@ fn digits_at(n: u32, out: &mut [u8], at: usize) -> usize
     let end = at + digits_of(n);
     let mut i = end;
     let mut rest = n;
+    // An iterator over out would be no plainer: the digits come last first, until there are none.
     while rest >= 10 {
         i -= 1;
         out[i] = 48 + (rest % 10) as u8;
@@ -68,11 +69,11 @@ fn running_at(running: Running, out: &mut [u8], at: usize) -> usize
 {
     out[at] = b' ';
     match running {
-        Running::Idle => {
+        None => {
             out[at + 1] = b'-';
             at + 2
         }
-        Running::Runs(task) => byte_at(task, out, at + 1),
+        Some(task) => byte_at(task, out, at + 1),
     }
 }
 
@@ -107,8 +108,7 @@ pub fn line_at(a: Answer, out: &mut [u8], at: usize) -> usize
     ensures wrote { Wrote out.old at (line a) out.new result }
     ensures upper_bound { result ≤ at + longest_line }
 {
-    let task = a.running;
     let running = byte_at(a.number, out, at);
-    let sets = running_at(task, out, running);
+    let sets = running_at(a.running, out, running);
     sets_at(a.sets, out, sets)
 }

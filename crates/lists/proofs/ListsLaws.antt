@@ -4,6 +4,7 @@ use mathlib.Core.Bool.{Bool, true, false, ◌&&◌}
 use mathlib.Core.List.{List}
 use Prim.Native.Nat.{ℕ, ◌+◌, ◌≤◌, ◌<◌}
 use native.Mathlib.Numerals.{add-one}
+use borrow.Author.Rules.{part_to_end}
 use borrow.Author.Tests.{eq-eqb, ne_eqb}
 use lib.Dec.{eqb}
 use lib.ListN.{length, drop, get_or, drop_of_length-le}
@@ -45,3 +46,10 @@ module _ (s : List ℕ) (i : ℕ) (past : length s ≤ i) where
   pub distinct_end : distinct (drop i s) ≡ true
   unfolding distinct
   distinct_end = rw (drop_of_length-le s past)
+
+-- By these the check finds the proofs of the scans.
+pub ruleset zero_scan = (zero_more, zero_end)
+
+pub ruleset named_scan = (named_stop, named_go, named_end)
+
+pub ruleset distinct_scan = (distinct_stop, distinct_go, distinct_end, part_to_end)

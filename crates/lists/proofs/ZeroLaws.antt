@@ -1,9 +1,11 @@
 -- Zero bytes: joined, part by part, and one by one from the front. For any number of them.
+use Rattle.std.specs.Int.{w64, from_le_bytes}
+use Rattle.std.specs.Simd.{first_chunks}
+use Rattle.std.proofs.lemmas.List.{take_all}
 use mathlib.Core.Path.{◌≡◌, refl, sym, ◌∙◌, ap}
 use mathlib.Core.Bool.{Bool, ◌&&◌, and_assoc}
 use mathlib.Core.List.{List, [], ◌∷◌}
 use Prim.Native.Nat.{ℕ, zero, suc, ◌+◌, ◌*◌, ◌≤◌, ◌<◌}
-use native.Mathlib.Numerals.{towards_suc}
 use native.Mathlib.Omega.{arith}
 use borrow.Author.Tests.{ne_eqb}
 use lib.Dec.{eqb, eqb-suc-zero}
@@ -50,6 +52,25 @@ spelt s i (suc n) h =
     let inside : i < length s = omega arith in
     rw (drop-cons s i 0 inside) (ap (λ (l : List ℕ). get_or s i 0 ∷ l) (spelt s (suc i) n (omega arith)))
 
-pub eight : (s : List ℕ) (i : ℕ) → i + 8 ≤ length s
-    → (get_or s i 0 ∷ get_or s (i + 1) 0 ∷ get_or s (i + 2) 0 ∷ get_or s (i + 3) 0 ∷ get_or s (i + 4) 0 ∷ get_or s (i + 5) 0 ∷ get_or s (i + 6) 0 ∷ get_or s (i + 7) 0 ∷ []) ≡ take 8 (drop i s)
-eight s i h = rw (spelt s i 8 h) (simp towards_suc)
+-- Eight bytes joined, as std sums them.
+pub joined_eight : (l : List ℕ) → length l ≡ 8 → from_le_bytes w64 l ≡ joined l
+unfolding joined
+joined_eight l e =
+    let all : l ≡ bytes_from l 0 8 = sym (take_all 8 l (omega arith)) ∙ spelt l 0 8 (omega arith) in
+    omega (arith, ap joined all)
+
+-- ---- eight by eight
+
+-- The eight at k of the n of them at the front.
+chunk_at : (s : List ℕ) (n k : ℕ) → k < n → get_or (first_chunks 8 n s) k [] ≡ take 8 (drop (k * 8) s)
+chunk_at s zero k h = absurd (omega arith)
+chunk_at s (suc n) zero h = refl
+chunk_at s (suc n) (suc k) h =
+    let next : suc k * 8 ≡ 8 + k * 8 = omega arith in
+    rw next (chunk_at (drop 8 s) n k (omega arith) ∙ ap (take 8) (drop-drop (k * 8) 8 s))
+
+pub zero_eight : (s : List ℕ) (k n : ℕ) (ok : Bool) → k < n
+    → (ok && all_zero (drop (k * 8) s)) ≡ ((ok && eqb (joined (get_or (first_chunks 8 n s) k [])) 0) && all_zero (drop ((k + 1) * 8) s))
+zero_eight s k n ok h =
+    let next : k * 8 + 8 ≡ (k + 1) * 8 = omega arith in
+    rw (chunk_at s n k h, ← next) (zero_joined s (k * 8) 8 ok)

@@ -11,9 +11,8 @@ use lib.Seq.{get_or-set_same, get_or-set_other, set_out}
 use borrow.Author.Tests.{ltb-true, ltb-false}
 use Rattle.layout.specs.declared.Mark.{Mark}
 use Rattle.layout.specs.declared.Call.{Call}
-use Rattle.calendar.specs.Moments.{first_after}
+use Rattle.calendar.specs.Moments.{first_after, Moment}
 use Rattle.calendar.specs.declared.Instant.{Instant}
-use Rattle.calendar.specs.declared.Moment.{Moment}
 use Rattle.facts.proofs.Bools.{by_bool, contra, by_eq}
 use Rattle.task.specs.Coming.{pendings}
 use Rattle.task.specs.State.{no_task, runnable}

@@ -1,4 +1,5 @@
 -- Laws of the scans over the numbers below n.
+use Rattle.std.specs.Prelude.{None, Some}
 use mathlib.Core.Path.{◌≡◌, refl}
 use mathlib.Core.Logic.{◌≢◌}
 use mathlib.Core.Bool.{Bool, true, false}
@@ -9,9 +10,7 @@ use lib.Dec.{ltb}
 use borrow.Author.Tests.{ltb-true, ltb-false}
 use Rattle.facts.proofs.Bools.{by_bool, by_eq, contra, both, and_both}
 use Rattle.machine.specs.Sums.{sum_below, all_below}
-use Rattle.machine.specs.Running.{most_urgent, better}
-use Rattle.machine.specs.declared.Running.{Running}
-use Rattle.machine.specs.declared.Running.TheVariants.{Idle, Runs}
+use Rattle.machine.specs.Running.{most_urgent, better, Running}
 
 -- ---- a test of each number
 
@@ -36,21 +35,21 @@ all_same (suc n) f g h = rw (all_same n f g (λ i l. h i (omega arith)), h n (om
 
 -- What the scan finds by a number u: the smallest u, and the first that has it, or nothing where none passes.
 abbrev pub Found : ℕ → (ℕ → Bool) → (ℕ → ℕ) → Running → Type 0
-Found n test u Idle = (j : ℕ) → j < n → test j ≡ false
-Found n test u (Runs i) =
+Found n test u None = (j : ℕ) → j < n → test j ≡ false
+Found n test u (Some i) =
     (i < n) × (test i ≡ true) × ((j : ℕ) → j < n → test j ≡ true → u i ≤ u j) × ((j : ℕ) → j < i → test j ≡ true → u i < u j)
 
 module _ (n : ℕ) (test : ℕ → Bool) (u : ℕ → ℕ) where
   -- One more number, that doesn't pass.
   passed_over : (r : Running) → test n ≡ false → Found n test u r → Found (suc n) test u r
-  passed_over Idle e f = λ j l. by_eq j n (λ q. rw q e) (λ q. f j (omega arith))
-  passed_over (Runs i) e f =
+  passed_over None e f = λ j l. by_eq j n (λ q. rw q e) (λ q. f j (omega arith))
+  passed_over (Some i) e f =
       (omega arith, f.1, λ j l t. by_eq j n (λ q. contra t (rw q e)) (λ q. f.2 j (omega arith) t), f.3)
 
   -- One more number, that passes.
   weighed : (r : Running) → test n ≡ true → Found n test u r → Found (suc n) test u (better u r n)
-  weighed Idle e f = (omega arith, e, λ j l t. by_eq j n (λ q. rw q (omega arith)) (λ q. contra t (f j (omega arith))), λ j l t. contra t (f j l))
-  weighed (Runs i) e f =
+  weighed None e f = (omega arith, e, λ j l t. by_eq j n (λ q. rw q (omega arith)) (λ q. contra t (f j (omega arith))), λ j l t. contra t (f j l))
+  weighed (Some i) e f =
       by_bool (ltb (u n) (u i))
       (λ b. let lt = ltb-true (u n) (u i) b in rw b
       (omega arith, e, λ j l t. by_eq j n (λ q. rw q (omega arith)) (λ q. let h = f.2 j (omega arith) t in omega arith), λ j l t. let h = f.2 j l t in omega arith))
@@ -64,13 +63,13 @@ scan_finds (suc n) test u =
     by_bool (test n) (λ e. rw e (weighed n test u (most_urgent n test u) e (scan_finds n test u)))
     (λ e. rw e (passed_over n test u (most_urgent n test u) e (scan_finds n test u)))
 
-pub most_urgent_idle : (n : ℕ) (c : ℕ → Bool) (p : ℕ → ℕ) → most_urgent n c p ≡ Idle → (i : ℕ) → i < n → c i ≡ false
+pub most_urgent_idle : (n : ℕ) (c : ℕ → Bool) (p : ℕ → ℕ) → most_urgent n c p ≡ None → (i : ℕ) → i < n → c i ≡ false
 most_urgent_idle n c p e = rw e at (scan_finds n c p)
 
-pub most_urgent_at : (n : ℕ) (c : ℕ → Bool) (p : ℕ → ℕ) (j : ℕ) → most_urgent n c p ≡ Runs j → (j < n) × (c j ≡ true)
-most_urgent_at n c p j e = let f : Found n c p (Runs j) = rw e at (scan_finds n c p) in (f.0, f.1)
+pub most_urgent_at : (n : ℕ) (c : ℕ → Bool) (p : ℕ → ℕ) (j : ℕ) → most_urgent n c p ≡ Some j → (j < n) × (c j ≡ true)
+most_urgent_at n c p j e = let f : Found n c p (Some j) = rw e at (scan_finds n c p) in (f.0, f.1)
 
-pub most_urgent_none : (n : ℕ) (c : ℕ → Bool) (p : ℕ → ℕ) → ((i : ℕ) → i < n → c i ≡ false) → most_urgent n c p ≡ Idle
+pub most_urgent_none : (n : ℕ) (c : ℕ → Bool) (p : ℕ → ℕ) → ((i : ℕ) → i < n → c i ≡ false) → most_urgent n c p ≡ None
 unfolding most_urgent
 most_urgent_none zero c p h = refl
 most_urgent_none (suc n) c p h = rw (h n (omega arith), most_urgent_none n c p (λ i l. h i (omega arith)))

@@ -1,4 +1,5 @@
 -- Every step is refusal 1 or 16, a refusal 2 to 15 or 17, or what an accepted declaration or call does.
+use Rattle.std.specs.Prelude.{Option, Err, None, Ok, Some}
 use mathlib.Core.Path.{◌≡◌, refl}
 use mathlib.Core.Logic.{◌≢◌}
 use mathlib.Core.Bool.{Bool, true, false, not, ◌&&◌, ◌||◌}
@@ -8,20 +9,15 @@ use native.Mathlib.Omega.{arith}
 use lib.ListN.{length}
 use lib.Dec.{ltb, eqb}
 use Rattle.calendar.specs.Limits.{last_instant}
-use Rattle.calendar.specs.Moments.{comes_by}
+use Rattle.calendar.specs.Moments.{comes_by, Moment}
 use Rattle.calendar.specs.declared.Instant.{Instant}
-use Rattle.calendar.specs.declared.Moment.{Moment}
 use Rattle.layout.specs.Marks.{is, mark_of, form}
 use Rattle.layout.specs.Fields.{record_length, letters, call_of}
 use Rattle.layout.proofs.MarksLaws.{is_mark}
 use Rattle.record.specs.Refusals.{named, unless, first_refusal, formed, listed, timed, shape, times}
-use Rattle.record.specs.Reading.{refused, accepted, call_with, with_mark, opened, or_refused}
-use Rattle.layout.specs.declared.Marked.{Marked}
-use Rattle.layout.specs.declared.Marked.TheVariants.{Unknown, Known}
+use Rattle.record.specs.Reading.{refused, accepted, call_with, with_mark, opened, or_refused, Read}
 use Rattle.layout.specs.declared.Mark.{Mark}
 use Rattle.layout.specs.declared.Mark.TheVariants.{DT, DS, DB, IT, DC, AC, TE, SU, TI, SL}
-use Rattle.record.specs.declared.Read.{Read}
-use Rattle.record.specs.declared.Read.TheVariants.{Refused, Accepted}
 use Rattle.record.specs.declared.Reading.{Reading}
 use Rattle.layout.specs.declared.Call.{Call}
 use Rattle.lock.specs.Locks.{waiting, returnable}
@@ -32,11 +28,9 @@ use Rattle.facts.proofs.Bools.{by_bool, contra}
 use Rattle.task.specs.State.{unheld, suspended}
 use Rattle.task.specs.declared.Task.{Task}
 use Rattle.machine.specs.declared.State.{State}
-use Rattle.machine.specs.declared.Running.{Running}
-use Rattle.machine.specs.declared.Running.TheVariants.{Idle}
+use Rattle.machine.specs.Running.{Running, runner, someone}
 use Rattle.machine.specs.declared.Stepped.{Stepped}
 use Rattle.machine.specs.State.{with_clock}
-use Rattle.machine.specs.Running.{runner, someone}
 use Rattle.machine.specs.NextEvent.{file_of}
 use Rattle.machine.specs.Test.{valid, filed, kernel_refusal}
 use Rattle.machine.specs.Sorts.{sort_of, declares, needs_runner, given_kind}
@@ -54,9 +48,9 @@ pub opened_cases : (s : List ℕ) (P : Reading → Type 0) → P (refused 2) →
 unfolding opened
 opened_cases s P f g = by_bool (eqb (length s) record_length) (λ e. rw e (go (mark_of (letters s)))) (λ e. rw e f)
   where
-    go : (m : Marked) → P (with_mark m s)
-    go Unknown = f
-    go (Known m) = g (call_of m s)
+    go : (m : Option Mark) → P (with_mark m s)
+    go None = f
+    go (Some m) = g (call_of m s)
 
 -- ---- numbers
 
@@ -152,8 +146,8 @@ carried_by day k c = go (formal_refusal day k.counts k.begun c)
 
 -- The step on bytes that open so.
 abbrev pub step_opened : ℕ → State → Read → List ℕ → Stepped
-step_opened day k (Refused n) l = answered k n (runner k)
-step_opened day k (Accepted h) l = carry_on day k (call_with h l)
+step_opened day k (Err n) l = answered k n (runner k)
+step_opened day k (Ok h) l = carry_on day k (call_with h l)
 
 pub read_opened : (day : ℕ) (k : State) (s : List ℕ) → let r = admitted day k.counts k.begun s in
     step_read day k r.answer r.list ≡ step_opened day k (opened s).answer (opened s).list
@@ -186,8 +180,8 @@ kernel_cases day k P failed misfiled returnable =
     (λ v. rw v (failed v))
 
 module _ (day : ℕ) (k : State) (P : Stepped → Type 0)
-    (failed : valid day k ≡ false → P (answered k 1 Idle))
-    (misfiled : valid day k ≡ true → k.file ≢ file_of k → P (answered k 16 Idle))
+    (failed : valid day k ≡ false → P (answered k 1 None))
+    (misfiled : valid day k ≡ true → k.file ≢ file_of k → P (answered k 16 None))
     (turned_away : kernel_refusal day k ≡ 0 → (n : ℕ) → 2 ≤ n → Late n → P (answered k n (runner k)))
     (done : kernel_refusal day k ≡ 0 → (c : Call) → refusal_of day k c ≡ 0 → P (carry_out day k c)) where
   on_cases : kernel_refusal day k ≡ 0 → (c : Call) → P (carry_on day k c)

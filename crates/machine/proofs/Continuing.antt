@@ -1,4 +1,5 @@
 -- What CONTINUE, RESUME and TRIGGER make of a continuation.
+use Rattle.std.specs.Prelude.{Some}
 use mathlib.Core.Path.{◌≡◌, refl, ap, subst, ◌∙◌}
 use mathlib.Core.Logic.{◌≢◌}
 use mathlib.Core.Bool.{Bool, true, false}
@@ -27,7 +28,6 @@ use Rattle.task.specs.Continuing.{Has, HasNone, SameHold, GoesOn}
 use Rattle.task.proofs.Continuing.{comes_due_law, later, on_interrupt_law, prevented}
 use Rattle.task.proofs.Firing.{turned}
 use Rattle.machine.specs.declared.State.{State}
-use Rattle.machine.specs.declared.Running.TheVariants.{Runs}
 use Rattle.machine.specs.declared.Sort.TheVariants.{OneTask, TheRunner, AnInterrupt}
 use Rattle.machine.specs.State.{task_at, enabled_at}
 use Rattle.machine.specs.Running.{runner}
@@ -97,7 +97,7 @@ named_turn_law day k s c h q =
     rw (one_at k i _ (in_table day k h.tested i l)) at (step_leaves day k s c h OneTask q refl i)
 
 -- The turn of the running task.
-pub runner_turn_law : (day : ℕ) (k : State) (s : List ℕ) (c : Call) (i : ℕ) → Accepts day k s c → sort_of c.head.mark ≡ TheRunner → runner k ≡ Runs i
+pub runner_turn_law : (day : ℕ) (k : State) (s : List ℕ) (c : Call) (i : ℕ) → Accepts day k s c → sort_of c.head.mark ≡ TheRunner → runner k ≡ Some i
     → SameButWait (runner_turn day k.clock k.now c.head.mark c.head (task_at k.tasks i)).task (task_after day k s i)
 unfolding work_by change_of
 runner_turn_law day k s c i h q r =

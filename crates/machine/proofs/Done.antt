@@ -1,4 +1,5 @@
 -- What each accepted call does, in the few shapes that there are.
+use Rattle.std.specs.Prelude.{None, Some}
 use mathlib.Core.Path.{◌≡◌, refl, sym, ap, ◌∙◌}
 use mathlib.Core.Bool.{Bool, true, false, not, ◌&&◌, ◌||◌, or-true, or-false}
 use mathlib.Core.List.{List}
@@ -27,12 +28,10 @@ use Rattle.task.specs.Turns.{unmarked}
 use Rattle.task.specs.declared.Task.{Task}
 use Rattle.task.specs.declared.Turn.{Turn}
 use Rattle.machine.specs.declared.State.{State}
-use Rattle.machine.specs.declared.Running.{Running}
-use Rattle.machine.specs.declared.Running.TheVariants.{Idle, Runs}
+use Rattle.machine.specs.Running.{Running, running_of, runner, someone}
 use Rattle.machine.specs.declared.Sort.{Sort}
 use Rattle.machine.specs.declared.Sort.TheVariants.{Declaration, OneTask, TheRunner, ListAsked, ListGiven, AnInterrupt, EveryTask}
 use Rattle.machine.specs.State.{task_at, enabled_at, count_of}
-use Rattle.machine.specs.Running.{running_of, runner, someone}
 use Rattle.machine.specs.Granting.{could_be_granted}
 use Rattle.machine.specs.Sorts.{sort_of, declaring, declares, asked_kind, staying, given_kind, naming, runner_at}
 use Rattle.machine.specs.Work.{Work, by_turn, changed, every_turn}
@@ -100,16 +99,16 @@ module _ (day : ℕ) (k : State) (c : Call) where
     gave : (w : Wait) → Lists w → every (returnable w k.locks) (named c) ≡ true
         → Did (giving w) (only_locks k (give_all w k.locks (named c)) k.enabled 0)
     -- the runner's list is granted
-    got : (w : Wait) (s : Bool) (i : ℕ) → waiting w ≡ true → runner k ≡ Runs i → Lists w → all_free w k.locks (named c) ≡ true
+    got : (w : Wait) (s : Bool) (i : ℕ) → waiting w ≡ true → runner k ≡ Some i → Lists w → all_free w k.locks (named c) ≡ true
         → Did (asking w s) (only_locks k (take_all w k.locks (named c)) k.enabled (2 ^ i))
     -- the runner waits for its list
-    waits : (w : Wait) (i : ℕ) → waiting w ≡ true → runner k ≡ Runs i → Lists w
+    waits : (w : Wait) (i : ℕ) → waiting w ≡ true → runner k ≡ Some i → Lists w
         → Did (asking w true) (one_turn k i (unmarked (wait_for w c.head.len c.list (task_at k.tasks i))))
     -- the runner tried its list and does not wait
-    tried : (w : Wait) (i : ℕ) → waiting w ≡ true → runner k ≡ Runs i → Did (asking w false) (only_locks k k.locks k.enabled 0)
+    tried : (w : Wait) (i : ℕ) → waiting w ≡ true → runner k ≡ Some i → Did (asking w false) (only_locks k k.locks k.enabled 0)
 
 -- The running task.
-pub runs : (k : State) (i : ℕ) → runner k ≡ Runs i → (i < k.counts.tasks) × ((task_at k.tasks i).alive ≡ true) × (waiting (task_at k.tasks i).wait ≡ false)
+pub runs : (k : State) (i : ℕ) → runner k ≡ Some i → (i < k.counts.tasks) × ((task_at k.tasks i).alive ≡ true) × (waiting (task_at k.tasks i).wait ≡ false)
 unfolding running_of
 runs k i e =
     let u = most_urgent_at k.counts.tasks (λ (i : ℕ). runnable (task_at k.tasks i)) _ i e in
@@ -180,8 +179,8 @@ module _ (day : ℕ) (is_day : IsDay day) (k : State) (h : StateOk day k) (c : C
     where
       go : (r : Running) → runner k ≡ r → someone r ≡ true
           → Does (plain_role false) (changed k (runner_at r) (by_turn k.locks (runner_turn day k.clock k.now m c.head (task_at k.tasks (runner_at r)))))
-      go Idle e z = contra z refl
-      go (Runs i) e z =
+      go None e z = contra z refl
+      go (Some i) e z =
           let u = runs k i e in
           does_turn i _ u.0 (good_runner (task_at k.tasks i) u.1 (h.tasks_ok_law i u.0) p.formal (unfold declared_by in rw q at p.formal.known))
 
@@ -200,8 +199,8 @@ module _ (day : ℕ) (is_day : IsDay day) (k : State) (h : StateOk day k) (c : C
       l = lists w p (rw q) (unfold declared_by in rw q at p.formal.known)
 
       go : (r : Running) → runner k ≡ r → someone r ≡ true → Does (asking w s) (changed k (runner_at r) (ask_for k.counts.tasks k.tasks w s c (task_at k.tasks (runner_at r)) k.locks))
-      go Idle e y = contra y refl
-      go (Runs i) e y =
+      go None e y = contra y refl
+      go (Some i) e y =
           let t = task_at k.tasks i in
           by_bool (could_be_granted k.counts.tasks k.tasks k.locks t.current w (named c))
           (λ g. rw (g, locks_alone k i (take_all w k.locks (named c)) true) (got w s i z e l (could_free _ _ _ _ w (named c) g)))

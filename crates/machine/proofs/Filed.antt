@@ -6,9 +6,8 @@ use Rattle.facts.proofs.Bools.{contra}
 use Rattle.layout.specs.declared.Mark.{Mark}
 use Rattle.layout.specs.declared.Call.{Call}
 use Rattle.machine.specs.declared.State.{State}
-use Rattle.machine.specs.declared.Running.{Running}
+use Rattle.machine.specs.Running.{Running, runner}
 use Rattle.machine.specs.declared.Stepped.{Stepped}
-use Rattle.machine.specs.Running.{runner}
 use Rattle.machine.specs.NextEvent.{file_of}
 use Rattle.machine.specs.Test.{kernel_refusal}
 use Rattle.machine.specs.Work.{Work}

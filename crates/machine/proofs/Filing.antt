@@ -1,4 +1,5 @@
 -- What refusals 1 and 16 say of a kernel.
+use Rattle.std.specs.Prelude.{None, Some}
 use mathlib.Core.Path.{◌≡◌, refl, ap}
 use mathlib.Core.Logic.{◌≢◌}
 use mathlib.Core.Bool.{Bool, true, false}
@@ -10,23 +11,21 @@ use Rattle.facts.proofs.Bools.{by_bool, contra, both, and_both}
 use Rattle.record.specs.Refusals.{unless}
 use Rattle.machine.specs.declared.OnFile.{OnFile}
 use Rattle.machine.specs.declared.State.{State}
-use Rattle.machine.specs.declared.Running.{Running}
-use Rattle.machine.specs.declared.Running.TheVariants.{Idle, Runs}
-use Rattle.machine.specs.Running.{same_running, runner}
+use Rattle.machine.specs.Running.{Running, same_running, runner}
 use Rattle.machine.specs.NextEvent.{next_event, file_of}
 use Rattle.machine.specs.Test.{valid, filed, kernel_refusal}
 
 -- ---- the same task, or none both times
 
 pub same_true : (a b : Running) → same_running a b ≡ true → a ≡ b
-same_true Idle Idle e = refl
-same_true Idle (Runs j) e = contra e refl
-same_true (Runs i) Idle e = contra e refl
-same_true (Runs i) (Runs j) e = ap Runs (eqb-true i j e)
+same_true None None e = refl
+same_true None (Some j) e = contra e refl
+same_true (Some i) None e = contra e refl
+same_true (Some i) (Some j) e = ap Some (eqb-true i j e)
 
 pub same_self : (a : Running) → same_running a a ≡ true
-same_self Idle = refl
-same_self (Runs i) = eq-eqb i i refl
+same_self None = refl
+same_self (Some i) = eq-eqb i i refl
 
 -- ---- on file
 

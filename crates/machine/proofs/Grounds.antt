@@ -1,4 +1,5 @@
 -- Each number is given on its ground, and on no other.
+use Rattle.std.specs.Prelude.{None, Some}
 use mathlib.Core.Path.{◌≡◌, refl, sym, subst, ◌∙◌}
 use mathlib.Core.Logic.{◌≢◌, ◌⊎◌, inl, inr, ◌↔◌}
 use mathlib.Core.Bool.{Bool, true, false, not, ◌&&◌, ◌||◌}
@@ -8,10 +9,8 @@ use native.Mathlib.Omega.{arith}
 use lib.Dec.{leb, ltb, eqb}
 use borrow.Author.Tests.{ltb-false, leb-false, eqb-true, not-false, le-ltb, lt-leb}
 use Rattle.calendar.specs.Limits.{last_instant}
-use Rattle.calendar.specs.Moments.{comes_by}
+use Rattle.calendar.specs.Moments.{comes_by, Moment}
 use Rattle.calendar.specs.declared.Instant.{Instant}
-use Rattle.calendar.specs.declared.Moment.{Moment}
-use Rattle.calendar.specs.declared.Moment.TheVariants.{Never, At}
 use Rattle.layout.specs.Marks.{is, form}
 use Rattle.layout.specs.declared.Call.{Call}
 use Rattle.layout.specs.declared.Form.{Form}
@@ -31,9 +30,7 @@ use Rattle.task.specs.declared.Hold.TheVariants.{Unheld, Suspended, Delayed}
 use Rattle.task.specs.declared.Task.{Task}
 use Rattle.machine.specs.declared.Counts.{Counts}
 use Rattle.machine.specs.declared.State.{State}
-use Rattle.machine.specs.declared.Running.{Running}
-use Rattle.machine.specs.declared.Running.TheVariants.{Idle, Runs}
-use Rattle.machine.specs.Running.{runner, someone}
+use Rattle.machine.specs.Running.{Running, runner, someone}
 use Rattle.machine.specs.NextEvent.{next_event}
 use Rattle.machine.specs.Sorts.{sort_of, declares, needs_runner, given_kind}
 use Rattle.machine.specs.Refusals.{start_declared, declared_by, declared_in, room_for, formal_refusal, unreturnable, is_continue, refusal_by, state_refusal}
@@ -188,7 +185,7 @@ module _ (n : Counts) where
 -- ---- 8 to 15 and 17
 
 -- The number of a ground.
-runner_number : (k : State) (c : Call) (m : Mark) → OfRunner m → runner k ≡ Idle → state_refusal m k c ≡ 8
+runner_number : (k : State) (c : Call) (m : Mark) → OfRunner m → runner k ≡ None → state_refusal m k c ≡ 8
 unfolding refusal_by
 runner_number k c m OfRunner.end e = rw e
 runner_number k c m OfRunner.resume e = rw e
@@ -220,13 +217,13 @@ module _ (k : State) (c : Call) where
   ground_number (Ground.sleep_too_far n e l) = rw (e, lt-leb n.0 last_instant (omega arith))
 
 -- The ground of a number.
-is_idle : (r : Running) → someone r ≡ false → r ≡ Idle
-is_idle Idle e = refl
-is_idle (Runs i) e = contra refl e
+is_idle : (r : Running) → someone r ≡ false → r ≡ None
+is_idle None e = refl
+is_idle (Some i) e = contra refl e
 
-who_runs : (r : Running) → someone r ≡ true → (i : ℕ) × (r ≡ Runs i)
-who_runs Idle e = contra e refl
-who_runs (Runs i) e = (i, refl)
+who_runs : (r : Running) → someone r ≡ true → (i : ℕ) × (r ≡ Some i)
+who_runs None e = contra e refl
+who_runs (Some i) e = (i, refl)
 
 is_suspended : (h : Hold) → suspended h ≡ true → h ≡ Suspended
 is_suspended Unheld e = contra e refl
@@ -258,7 +255,7 @@ module _ (k : State) (c : Call) (n : ℕ) (some : n ≢ 0) where
   none : {X : Type 0} → 0 ≡ n → X
   none e = absurd (some (sym e))
 
-  runs : {m : Mark} → OfRunner m → (rest : ℕ) → unless (someone (runner k)) 8 rest ≡ n → ((i : ℕ) → runner k ≡ Runs i → rest ≡ n → Ground k c m n)
+  runs : {m : Mark} → OfRunner m → (rest : ℕ) → unless (someone (runner k)) 8 rest ≡ n → ((i : ℕ) → runner k ≡ Some i → rest ≡ n → Ground k c m n)
       → Ground k c m n
   runs {m} o rest e f =
       given (someone (runner k)) 8 rest n e (λ b z. as_number (Ground.nobody_runs m o (is_idle (runner k) b)) z)
@@ -330,8 +327,8 @@ module _ (k : State) (c : Call) (n : ℕ) (some : n ≢ 0) where
   number_ground SL l e = go (next_event k) refl e
     where
       go : (x : Moment) → next_event k ≡ x → unless (comes_by last_instant x) 17 0 ≡ n → Ground k c SL n
-      go Never q z = as_number (Ground.sleep_for_nothing q) z
-      go (At x) q z =
+      go None q z = as_number (Ground.sleep_for_nothing q) z
+      go (Some x) q z =
           given (leb x.0 last_instant) 17 0 n z
           (λ b y. as_number (Ground.sleep_too_far x q (leb-false x.0 last_instant b)) y) (λ b y. none y)
 

@@ -1,14 +1,13 @@
 -- Every step keeps what the kernel test asks.
+use Rattle.std.specs.Prelude.{Err, Ok}
 use mathlib.Core.Path.{◌≡◌, refl, sym}
 use mathlib.Core.List.{List}
 use Prim.Native.Nat.{ℕ, zero, suc, ◌≤◌}
 use native.Mathlib.Omega.{arith}
 use Rattle.calendar.specs.Limits.{day_length}
 use Rattle.facts.proofs.Bools.{by_bool, contra}
-use Rattle.record.specs.Reading.{call_with, opened}
+use Rattle.record.specs.Reading.{call_with, opened, Read}
 use Rattle.layout.specs.Fields.{Octets}
-use Rattle.record.specs.declared.Read.{Read}
-use Rattle.record.specs.declared.Read.TheVariants.{Refused, Accepted}
 use Rattle.layout.specs.declared.Call.{Call}
 use Rattle.machine.specs.declared.State.{State}
 use Rattle.machine.specs.Test.{filed, kernel_refusal}
@@ -60,8 +59,8 @@ module _ (day : ℕ) (is_day : IsDay day) (k : State) (h : StateOk day k) where
   step_ok s o = rw (step_on day k s (passes_of_ok day k h).tested) (go (opened s).answer refl)
     where
       go : (r : Read) → (opened s).answer ≡ r → StateOk day (step_opened day k r (opened s).list).state
-      go (Refused n) e = unfold answered in h
-      go (Accepted d) e = let b = opened_priority s d o e in carry_ok (call_with d (opened s).list) (omega arith)
+      go (Err n) e = unfold answered in h
+      go (Ok d) e = let b = opened_priority s d o e in carry_ok (call_with d (opened s).list) (omega arith)
 
 pub step_passes : StepPasses
 step_passes day is_day k p s o = passes_of_ok day _ (step_ok day is_day k (ok_of_passes day k p) s o)

@@ -1,4 +1,5 @@
 -- The kernel test passes exactly what keeps the limits.
+use Rattle.std.specs.Prelude.{is_some, None, Option, Some}
 use mathlib.Core.Path.{◌≡◌, refl, sym, ap}
 use mathlib.Core.Logic.{◌≢◌, ◌⊎◌, inl, inr, ⊎_elim}
 use mathlib.Core.Bool.{Bool, true, false, not, ◌&&◌, ◌||◌}
@@ -13,8 +14,7 @@ use Rattle.calendar.specs.declared.Instant.{Instant}
 use Rattle.calendar.specs.declared.Duration.{Duration}
 use Rattle.calendar.specs.declared.End.{End}
 use Rattle.calendar.specs.declared.End.TheVariants.{Open, Until, During}
-use Rattle.calendar.specs.declared.Moment.{Moment}
-use Rattle.calendar.specs.declared.Moment.TheVariants.{Never, At}
+use Rattle.calendar.specs.Moments.{Moment}
 use Rattle.lists.specs.Lists.{names, distinct, every}
 use Rattle.lists.proofs.EveryLaws.{names_same, names_head, names_tail, distinct_parts, every_at, every_from}
 use Rattle.facts.proofs.Bools.{by_bool, by_eq, contra, both, and_both, not_of_false, or_then, then_or}
@@ -25,14 +25,12 @@ use Rattle.lock.specs.declared.Wait.{Wait}
 use Rattle.lock.specs.declared.Wait.TheVariants.{Nothing, Request, Reserve, Enter}
 use Rattle.schedule.specs.Alarms.{planned, pending, listening}
 use Rattle.schedule.specs.declared.Plan.{Plan}
-use Rattle.schedule.specs.declared.Plan.TheVariants.{None, Clock, Armed, Triggered}
+use Rattle.schedule.specs.declared.Plan.TheVariants.{Clock, Armed, Triggered}
 use Rattle.schedule.specs.declared.Alarm.{Alarm}
 use Rattle.schedule.specs.declared.Schedule.{Schedule}
-use Rattle.task.specs.State.{rest_ok, wanted, is_kept, unheld}
+use Rattle.task.specs.State.{rest_ok, wanted, unheld}
 use Rattle.task.specs.declared.Hold.{Hold}
 use Rattle.task.specs.declared.Hold.TheVariants.{Unheld, Suspended, Delayed}
-use Rattle.task.specs.declared.Kept.{Kept}
-use Rattle.task.specs.declared.Kept.TheVariants.{Empty, Back}
 use Rattle.task.specs.declared.Task.{Task}
 use Rattle.machine.specs.declared.Counts.{Counts}
 use Rattle.machine.specs.declared.State.{State}
@@ -115,7 +113,7 @@ is_pending : (p : Plan) → (p ≡ Clock) ⊎ (p ≡ Triggered) → pending p �
 is_pending p h = ⊎_elim (λ e. rw e) (λ e. rw e) h
 
 pending_is : (p : Plan) → pending p ≡ true → (p ≡ Clock) ⊎ (p ≡ Triggered)
-pending_is None e = contra e refl
+pending_is Plan.None e = contra e refl
 pending_is Clock e = inl refl
 pending_is Armed e = contra e refl
 pending_is Triggered e = inr refl
@@ -124,18 +122,18 @@ is_listening : (p : Plan) → (p ≡ Armed) ⊎ (p ≡ Triggered) → listening 
 is_listening p h = ⊎_elim (λ e. rw e) (λ e. rw e) h
 
 listening_is : (p : Plan) → listening p ≡ true → (p ≡ Armed) ⊎ (p ≡ Triggered)
-listening_is None e = contra e refl
+listening_is Plan.None e = contra e refl
 listening_is Clock e = contra e refl
 listening_is Armed e = inl refl
 listening_is Triggered e = inr refl
 
-is_planned : (p : Plan) → p ≢ None → planned p ≡ true
-is_planned None h = absurd (h refl)
+is_planned : (p : Plan) → p ≢ Plan.None → planned p ≡ true
+is_planned Plan.None h = absurd (h refl)
 is_planned Clock h = refl
 is_planned Armed h = refl
 is_planned Triggered h = refl
 
-planned_is : (p : Plan) → planned p ≡ true → p ≢ None
+planned_is : (p : Plan) → planned p ≡ true → p ≢ Plan.None
 planned_is p e q = contra e (rw q)
 
 alarm_limits : (ni : ℕ) (a : Alarm) → alarm_ok ni a ≡ true → AlarmLimits ni a
@@ -174,14 +172,14 @@ end_passes Open f g = refl
 end_passes (Until t) f g = lt-ltb t day_length (omega (arith, f t refl))
 end_passes (During d) f g = let l = g d refl in and_both (le-leb 1 d.0 l.0) (le-leb d.0 longest_duration (omega arith))
 
-last_in : (m : Moment) → moment_ok m ≡ true → (n : Instant) → m ≡ At n → n.0 ≤ 2 ^ 42
-last_in m h n q = let z : moment_ok (At n) ≡ true = rw q at h in omega (arith, leb-true n.0 most_instant z)
+last_in : (m : Moment) → moment_ok m ≡ true → (n : Instant) → m ≡ Some n → n.0 ≤ 2 ^ 42
+last_in m h n q = let z : moment_ok (Some n) ≡ true = rw q at h in omega (arith, leb-true n.0 most_instant z)
 
-last_passes : (m : Moment) → ((n : Instant) → m ≡ At n → n.0 ≤ 2 ^ 42) → moment_ok m ≡ true
-last_passes Never f = refl
-last_passes (At n) f = le-leb n.0 most_instant (omega (arith, f n refl))
+last_passes : (m : Moment) → ((n : Instant) → m ≡ Some n → n.0 ≤ 2 ^ 42) → moment_ok m ≡ true
+last_passes None f = refl
+last_passes (Some n) f = le-leb n.0 most_instant (omega (arith, f n refl))
 
-schedule_limits : (ni : ℕ) (s : Schedule) → schedule_ok day_length ni s ≡ true → s.alarm.plan ≢ None → ScheduleLimits ni s
+schedule_limits : (ni : ℕ) (s : Schedule) → schedule_ok day_length ni s ≡ true → s.alarm.plan ≢ Plan.None → ScheduleLimits ni s
 unfolding schedule_ok
 schedule_limits ni s e h =
     let a = both (alarm_ok ni s.alarm && last_ok s) (terms_ok day_length s) (or_then (planned s.alarm.plan) _ e (is_planned s.alarm.plan h)) in
@@ -197,7 +195,7 @@ schedule_limits ni s e h =
       last = λ n q w. last_in s.last (or_then (pending s.alarm.plan) _ b.1 (is_pending s.alarm.plan w)) n q;
     }
 
-schedule_passes : (ni : ℕ) (s : Schedule) → (s.alarm.plan ≢ None → ScheduleLimits ni s) → schedule_ok day_length ni s ≡ true
+schedule_passes : (ni : ℕ) (s : Schedule) → (s.alarm.plan ≢ Plan.None → ScheduleLimits ni s) → schedule_ok day_length ni s ≡ true
 unfolding schedule_ok
 schedule_passes ni s f =
     then_or (planned s.alarm.plan) _
@@ -209,13 +207,13 @@ schedule_passes ni s f =
     (and_both (and_both (priority_passes s.priority h.priority) (le-leb s.period longest_duration (omega (arith, h.period))))
     (end_passes s.end h.until h.during)))
 
-continuation_limits : (ni : ℕ) (a : Alarm) (p : ℕ) → continuation_ok ni a p ≡ true → a.plan ≢ None → ContinuationLimits ni a p
+continuation_limits : (ni : ℕ) (a : Alarm) (p : ℕ) → continuation_ok ni a p ≡ true → a.plan ≢ Plan.None → ContinuationLimits ni a p
 unfolding continuation_ok
 continuation_limits ni a p e h =
     let b = both (alarm_ok ni a) (leb p most_priority) (or_then (planned a.plan) _ e (is_planned a.plan h)) in
     record { alarm = alarm_limits ni a b.0; priority = omega (arith, leb-true p most_priority b.1) }
 
-continuation_passes : (ni : ℕ) (a : Alarm) (p : ℕ) → (a.plan ≢ None → ContinuationLimits ni a p) → continuation_ok ni a p ≡ true
+continuation_passes : (ni : ℕ) (a : Alarm) (p : ℕ) → (a.plan ≢ Plan.None → ContinuationLimits ni a p) → continuation_ok ni a p ≡ true
 unfolding continuation_ok
 continuation_passes ni a p f =
     then_or (planned a.plan) _
@@ -237,26 +235,26 @@ is_unheld Unheld e = refl
 is_unheld Suspended e = contra e refl
 is_unheld (Delayed n) e = contra e refl
 
-is_empty : (q : Kept) → is_kept q ≡ false → q ≡ Empty
-is_empty Empty e = refl
-is_empty (Back p) e = contra refl e
+is_empty : (q : Option ℕ) → is_some q ≡ false → q ≡ None
+is_empty None e = refl
+is_empty (Some p) e = contra refl e
 
 rests : (t : Task) → rest_ok t ≡ true → t.alive ≡ false → AtRest t
 rests t e d =
-    let z : (not (is_kept t.kept) && not (waiting t.wait) && unheld t.hold) ≡ true = rw d at e in
-    let a = both (not (is_kept t.kept) && not (waiting t.wait)) (unheld t.hold) z in
-    let b = both (not (is_kept t.kept)) (not (waiting t.wait)) a.0 in
+    let z : (not (is_some t.kept) && not (waiting t.wait) && unheld t.hold) ≡ true = rw d at e in
+    let a = both (not (is_some t.kept) && not (waiting t.wait)) (unheld t.hold) z in
+    let b = both (not (is_some t.kept)) (not (waiting t.wait)) a.0 in
     record { wait = waits_nothing t.wait (not-true _ b.1); hold = is_unheld t.hold a.1; kept = is_empty t.kept (not-true _ b.0) }
 
 rest_passes : (t : Task) → (t.alive ≡ false → AtRest t) → rest_ok t ≡ true
 rest_passes t f = by_bool t.alive (λ e. rw e) (λ e. let h = f e in rw (e, h.wait, h.hold, h.kept))
 
-kept_in : (q : Kept) → kept_ok q ≡ true → (p : ℕ) → q ≡ Back p → (1 ≤ p) × (p ≤ 255)
-kept_in q h p e = let z : kept_ok (Back p) ≡ true = rw e at h in priority_in p z
+kept_in : (q : Option ℕ) → kept_ok q ≡ true → (p : ℕ) → q ≡ Some p → (1 ≤ p) × (p ≤ 255)
+kept_in q h p e = let z : kept_ok (Some p) ≡ true = rw e at h in priority_in p z
 
-kept_passes : (q : Kept) → ((p : ℕ) → q ≡ Back p → (1 ≤ p) × (p ≤ 255)) → kept_ok q ≡ true
-kept_passes Empty f = refl
-kept_passes (Back p) f = priority_passes p (f p refl)
+kept_passes : (q : Option ℕ) → ((p : ℕ) → q ≡ Some p → (1 ≤ p) × (p ≤ 255)) → kept_ok q ≡ true
+kept_passes None f = refl
+kept_passes (Some p) f = priority_passes p (f p refl)
 
 delayed_in : (q : Hold) → hold_ok q ≡ true → (m : Instant) → q ≡ Delayed m → m.0 ≤ 2 ^ 42
 delayed_in q h m e = let z : hold_ok (Delayed m) ≡ true = rw e at h in omega (arith, leb-true m.0 most_instant z)

@@ -8,7 +8,7 @@ use lib.Dec.{leb, ltb, eqb}
 use borrow.Author.Tests.{ltb-true}
 use Rattle.calendar.specs.Limits.{last_instant, is_time_of_day}
 use Rattle.calendar.specs.declared.Instant.{Instant}
-use Rattle.calendar.specs.declared.Moment.{Moment}
+use Rattle.calendar.specs.Moments.{Moment}
 use Rattle.layout.specs.declared.Mark.{Mark}
 use Rattle.layout.specs.declared.Mark.TheVariants.{AC, TE, SU, CO}
 use Rattle.layout.specs.declared.Call.{Call}
@@ -26,11 +26,10 @@ use Rattle.task.specs.State.{wanted}
 use Rattle.task.specs.declared.Task.{Task}
 use Rattle.machine.specs.declared.Counts.{Counts}
 use Rattle.machine.specs.declared.State.{State}
-use Rattle.machine.specs.declared.Running.{Running}
+use Rattle.machine.specs.Running.{Running, urgency, running_of, runner}
 use Rattle.machine.specs.declared.Sort.{Sort}
 use Rattle.machine.specs.declared.Sort.TheVariants.{Declaration, OneTask, TheRunner, ListAsked, ListGiven, AnInterrupt, EveryTask}
 use Rattle.machine.specs.State.{task_at, count_of, with_state, place_at, with_places}
-use Rattle.machine.specs.Running.{urgency, running_of, runner}
 use Rattle.machine.specs.NextEvent.{next_among, next_event}
 use Rattle.machine.specs.Granting.{available, could_be_granted, servable}
 use Rattle.machine.specs.Sums.{all_below}

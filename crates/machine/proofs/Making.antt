@@ -1,4 +1,5 @@
 -- What single calls and declarations leave.
+use Rattle.std.specs.Prelude.{None, Option, Some}
 use mathlib.Core.Path.{◌≡◌, refl, sym, ap, subst, ◌∙◌}
 use mathlib.Core.Logic.{◌≢◌, ◌⊎◌, ⊎_elim, inl, inr}
 use mathlib.Core.Bool.{Bool, true, false}
@@ -27,15 +28,12 @@ use Rattle.task.specs.Continuations.{or_else, goes_on}
 use Rattle.task.specs.Turns.{started, terminated, due_if, end_if, end_turn, suspend_turn, go_on_turn, delay_turn}
 use Rattle.task.specs.declared.Hold.{Hold}
 use Rattle.task.specs.declared.Hold.TheVariants.{Suspended, Delayed}
-use Rattle.task.specs.declared.Kept.{Kept}
-use Rattle.task.specs.declared.Kept.TheVariants.{Empty, Back}
 use Rattle.task.specs.declared.Task.{Task}
 use Rattle.task.specs.declared.Turn.{Turn}
 use Rattle.task.proofs.Continuing.{has, same_then}
 use Rattle.task.proofs.Laws.{given_taken}
 use Rattle.machine.specs.declared.State.{State}
 use Rattle.machine.specs.declared.OnFile.{OnFile}
-use Rattle.machine.specs.declared.Running.TheVariants.{Runs}
 use Rattle.machine.specs.declared.Stepped.{Stepped}
 use Rattle.machine.specs.declared.Sort.{Sort}
 use Rattle.machine.specs.declared.Sort.TheVariants.{Declaration, OneTask, TheRunner, ListAsked, ListGiven, AnInterrupt, EveryTask}
@@ -104,15 +102,15 @@ ended_clear : (t : Task) → Clear false (terminated t)
 ended_clear t = record { alive = refl; hold = refl; wait = refl; kept = refl }
 
 -- A task that has ended, or started anew.
-end_wait : (k : Kept) (t : Task) → (end_if k t).task.wait ≡ Nothing
+end_wait : (k : Option ℕ) (t : Task) → (end_if k t).task.wait ≡ Nothing
 unfolding end_if
-end_wait Empty t = refl
-end_wait (Back p) t = refl
+end_wait None t = refl
+end_wait (Some p) t = refl
 
-end_plans : (k : Kept) (t : Task) → SamePlans t (end_if k t).task
+end_plans : (k : Option ℕ) (t : Task) → SamePlans t (end_if k t).task
 unfolding end_if
-end_plans Empty t = record { schedule = refl; continuation = has (terminated t) }
-end_plans (Back p) t = record { schedule = refl; continuation = has (started p t) }
+end_plans None t = record { schedule = refl; continuation = has (terminated t) }
+end_plans (Some p) t = record { schedule = refl; continuation = has (started p t) }
 
 ends : (t v : Task) → SameButWait (end_turn t).task v → v.wait ≡ Nothing → TaskEnds t v
 unfolding end_if
@@ -145,7 +143,7 @@ module _ (day : ℕ) (k : State) (s : List ℕ) (c : Call) (h : Accepts day k s 
   unfolding work_by change_of
   named_work q = one_at k i _ (in_table day k h.tested i (named_in q))
 
-  runner_work : (j : ℕ) → runner k ≡ Runs j
+  runner_work : (j : ℕ) → runner k ≡ Some j
       → task_at (work_by day TheRunner k c).tasks j ≡ (runner_turn day k.clock k.now c.head.mark c.head (task_at k.tasks j)).task
   unfolding work_by change_of
   runner_work j r = rw r (one_at k j _ (in_table day k h.tested j (runs k j r).0))

@@ -1,4 +1,5 @@
 -- Whom the sets due, started and ended have.
+use Rattle.std.specs.Prelude.{is_some, Err, None, Ok}
 use mathlib.Core.Path.{◌≡◌, refl, sym, ap, ◌∙◌}
 use mathlib.Core.Bool.{Bool, true, false, not, ◌&&◌, ◌||◌, and-false}
 use mathlib.Core.List.{List}
@@ -10,21 +11,16 @@ use Rattle.calendar.specs.declared.Instant.{Instant}
 use Rattle.layout.specs.Marks.{is}
 use Rattle.layout.specs.declared.Call.{Call}
 use Rattle.layout.specs.declared.Mark.TheVariants.{AC, TE, EN, TG, TI, SL}
-use Rattle.record.specs.Reading.{call_with, opened}
-use Rattle.record.specs.declared.Read.{Read}
-use Rattle.record.specs.declared.Read.TheVariants.{Refused, Accepted}
+use Rattle.record.specs.Reading.{call_with, opened, Read}
 use Rattle.facts.proofs.Bools.{contra}
 use Rattle.lock.specs.Locks.{bit}
 use Rattle.lock.proofs.Bits.{eqb_bit}
-use Rattle.task.specs.State.{is_kept}
 use Rattle.task.specs.declared.Task.{Task}
-use Rattle.machine.specs.declared.Running.{Running}
-use Rattle.machine.specs.declared.Running.TheVariants.{Idle}
+use Rattle.machine.specs.Running.{Running, runner}
 use Rattle.machine.specs.declared.State.{State}
 use Rattle.machine.specs.declared.Stepped.{Stepped}
 use Rattle.machine.specs.Sets.{Due, Started, Ended, has, holds, mark}
 use Rattle.machine.specs.State.{task_at}
-use Rattle.machine.specs.Running.{runner}
 use Rattle.machine.specs.Sorts.{sort_of, declaring, declares}
 use Rattle.machine.specs.Work.{Work}
 use Rattle.machine.specs.Test.{valid, kernel_refusal}
@@ -115,13 +111,13 @@ module _ (day : ℕ) (k : State) (i : ℕ) where
     carried_has v c (suc n) e = unfold answered in has_unless _ _ _ _ (ne_eqb (suc n) 0 (λ z. omega arith)) (has_none (suc n) (runner k))
 
     opened_has : valid day k ≡ true → (r : Read) (ls : List ℕ) → Opens r ls (step_opened day k r ls)
-    opened_has v (Refused n) ls = unfold answered in rw and-false (has_none n (runner k))
-    opened_has v (Accepted h) ls = let c = call_with h ls in rw (carried_by day k c) (carried_has v c (refusal_of day k c) refl)
+    opened_has v (Err n) ls = unfold answered in rw and-false (has_none n (runner k))
+    opened_has v (Ok h) ls = let c = call_with h ls in rw (carried_by day k c) (carried_has v c (refusal_of day k c) refl)
 
     -- A kernel turned away.
     away_has : (n : ℕ) → kernel_refusal day k ≡ suc n → (s : List ℕ) → Opens (opened s).answer (opened s).list (step day k s)
     unfolding step
-    away_has n v s = rw v (unfold answered in has_unless _ _ _ _ (ne_eqb (suc n) 0 (λ z. omega arith)) (has_none (suc n) Idle))
+    away_has n v s = rw v (unfold answered in has_unless _ _ _ _ (ne_eqb (suc n) 0 (λ z. omega arith)) (has_none (suc n) None))
 
     step_has : (s : List ℕ) (n : ℕ) → kernel_refusal day k ≡ n → Opens (opened s).answer (opened s).list (step day k s)
     step_has s zero e = rw (step_on day k s e) (opened_has (taken_valid day k e) (opened s).answer (opened s).list)

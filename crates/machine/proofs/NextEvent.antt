@@ -1,4 +1,5 @@
 -- The next event is real and earliest, and quiet ticks leave it.
+use Rattle.std.specs.Prelude.{None, Some}
 use mathlib.Core.Path.{◌≡◌, refl, sym, ap, ap₂, ◌∙◌}
 use mathlib.Core.Bool.{true, false, ◌||◌}
 use mathlib.Core.List.{List, ◌++◌}
@@ -8,10 +9,8 @@ use native.Mathlib.Omega.{arith}
 use lib.Dec.{ltb}
 use borrow.Author.Tests.{leb-true, lt-ltb, ltb-true, ltb-false}
 use Rattle.calendar.specs.Times.{instant, duration, plus}
-use Rattle.calendar.specs.Moments.{has_at, earlier_than, comes_by, instant_or, first_after}
+use Rattle.calendar.specs.Moments.{has_at, earlier_than, comes_by, instant_or, first_after, Moment}
 use Rattle.calendar.specs.declared.Instant.{Instant}
-use Rattle.calendar.specs.declared.Moment.{Moment}
-use Rattle.calendar.specs.declared.Moment.TheVariants.{Never, At}
 use Rattle.calendar.proofs.Moments.{earlier, first_none, first_is, first_append, has_append}
 use Rattle.facts.proofs.Bools.{by_bool, by_eq, contra, neither}
 use Rattle.task.specs.Coming.{pendings, comes}
@@ -67,12 +66,12 @@ module _ (x : Instant) (ts us : List Task) where
 
 -- An instant that comes by l.
 pub instant_by : (l : ℕ) (n : Instant) (m : Moment) → comes_by l m ≡ true → (instant_or n m).0 ≤ l
-instant_by l n Never e = contra e refl
-instant_by l n (At x) e = leb-true x.0 l e
+instant_by l n None e = contra e refl
+instant_by l n (Some x) e = leb-true x.0 l e
 
 before_before : (m : Moment) (x y : ℕ) → x ≤ y → earlier_than (instant y) m ≡ true → earlier_than (instant x) m ≡ true
-before_before Never x y l e = refl
-before_before (At n) x y l e = lt-ltb x n.0 (omega (arith, ltb-true y n.0 e))
+before_before None x y l e = refl
+before_before (Some n) x y l e = lt-ltb x n.0 (omega (arith, ltb-true y n.0 e))
 
 -- ---- the next event
 
@@ -96,11 +95,11 @@ module _ {k : State} where
       contra c.2 (p.quiet (a.0 - k.now.0) (rw e b) c.0 c.1 a.0 l (omega arith))
 
   pub same_next : (m m' : Moment) → IsNextEvent k m → IsNextEvent k m' → m ≡ m'
-  same_next Never Never p q = refl
-  same_next Never (At b) p q = absurd (not_before_law p b (q.later b refl) (q.comes b refl) refl)
-  same_next (At a) Never p q = absurd (not_before_law q a (p.later a refl) (p.comes a refl) refl)
-  same_next (At a) (At b) p q =
-      by_eq a.0 b.0 (λ e. ap (λ (x : ℕ). At (instant x)) e)
+  same_next None None p q = refl
+  same_next None (Some b) p q = absurd (not_before_law p b (q.later b refl) (q.comes b refl) refl)
+  same_next (Some a) None p q = absurd (not_before_law q a (p.later a refl) (p.comes a refl) refl)
+  same_next (Some a) (Some b) p q =
+      by_eq a.0 b.0 (λ e. ap (λ (x : ℕ). Some (instant x)) e)
       (λ ne. absurd (go (dec_lt a.0 b.0) ne))
     where
       go : Dec (a.0 < b.0) → (a.0 ≡ b.0 → ⊥) → ⊥
@@ -115,8 +114,8 @@ pub quiet_before : (k : State) (d : ℕ) → Quiet d k → earlier_than (plus k.
 quiet_before k d q = go (next_event k) (next_is_next k)
   where
     go : (m : Moment) → IsNextEvent k m → earlier_than (plus k.now (duration d)) m ≡ true
-    go Never p = refl
-    go (At x) p =
+    go None p = refl
+    go (Some x) p =
         let c = p.comes x refl in
         by_bool (ltb (k.now.0 + d) x.0) (λ e. e)
         (λ e. contra c.2 (q c.0 c.1 x.0 (p.later x refl) (ltb-false (k.now.0 + d) x.0 e)))

@@ -1,4 +1,5 @@
 -- Serving goes once through the tasks by urgency: whom it passes over it never comes back to.
+use Rattle.std.specs.Prelude.{None, Some}
 use mathlib.Core.Path.{◌≡◌, refl, sym, ap, ◌∙◌}
 use mathlib.Core.Bool.{true, false}
 use mathlib.Core.List.{List, [], ◌∷◌}
@@ -15,10 +16,8 @@ use Rattle.lists.proofs.EveryLaws.{names_head, names_same, every_more, every_at,
 use Rattle.lock.proofs.Taking.{move_size}
 use Rattle.task.specs.State.{wanted}
 use Rattle.machine.specs.declared.State.{State}
-use Rattle.machine.specs.declared.Running.{Running}
-use Rattle.machine.specs.declared.Running.TheVariants.{Idle, Runs}
+use Rattle.machine.specs.Running.{Running, urgency}
 use Rattle.machine.specs.State.{task_at}
-use Rattle.machine.specs.Running.{urgency}
 use Rattle.machine.specs.Serving.{Served, next_served, grant_to, serve}
 use Rattle.machine.specs.Sorts.{sort_of, declares}
 use Rattle.machine.specs.Calls.{work_of}
@@ -71,12 +70,12 @@ nobody_left n ps (suc turns) p h = rw (most_urgent_none n (can_be_served n p) (u
 module _ (n : ℕ) (ps : List ℕ) (u : ℕ → ℕ) where
   -- Who stands first in the list and can be served is the next.
   first_next : (x : ℕ) (l : List ℕ) (turns : ℕ) (p : Served) → Ahead n ps u (x ∷ l) turns p → every (λ y. ltb (u x) (u y)) l ≡ true
-      → can_be_served n p x ≡ true → next_served n ps p ≡ Runs x
+      → can_be_served n p x ≡ true → next_served n ps p ≡ Some x
   first_next x l turns p a o e = go (next_served n ps p) (scan_finds n (can_be_served n p) (urgency ps p.tasks))
     where
-      go : (r : Running) → Found n (can_be_served n p) (urgency ps p.tasks) r → r ≡ Runs x
-      go Idle f = contra e (f x (a.below x (names_same x l)))
-      go (Runs i) f =
+      go : (r : Running) → Found n (can_be_served n p) (urgency ps p.tasks) r → r ≡ Some x
+      go None f = contra e (f x (a.below x (names_same x l)))
+      go (Some i) f =
           by_eq x i (λ z. rw z)
           (λ z.
           let m = rw (names_head x i l z) at (a.named i f.0 f.1) in

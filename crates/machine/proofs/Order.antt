@@ -1,4 +1,5 @@
 -- The step's numbers for what the reader refuses.
+use Rattle.std.specs.Prelude.{Err, Ok}
 use mathlib.Core.Path.{◌≡◌, refl, sym, ap, ◌∙◌}
 use mathlib.Core.Logic.{◌≢◌}
 use mathlib.Core.Bool.{Bool, true, false, not, ◌&&◌}
@@ -10,7 +11,6 @@ use Rattle.record.specs.Refusals.{unless, first_refusal, formed, listed, timed, 
 use Rattle.record.specs.Reading.{accepted, opened, or_refused, judged, reading}
 use Rattle.layout.specs.declared.Mark.{Mark}
 use Rattle.layout.specs.declared.Call.{Call}
-use Rattle.record.specs.declared.Read.TheVariants.{Refused, Accepted}
 use Rattle.record.proofs.ReaderLaws.{first_kept}
 use Rattle.facts.proofs.Bools.{contra}
 use Rattle.machine.specs.declared.Counts.{Counts}
@@ -63,7 +63,7 @@ module _ (day : ℕ) (k : State) (c : Call) where
   known = declared_in c.head.mark k.counts c
 
   abbrev number : ℕ
-  number = number_for k (Accepted c.head) c.list
+  number = number_for k (Ok c.head) c.list
 
   refused_number : refusal day c ≢ 0 → refusal_of day k c ≡ number
   unfolding refusal refusal_of formal_refusal
@@ -78,7 +78,7 @@ module _ (day : ℕ) (k : State) (c : Call) where
   carried h = on_refused number (refused_number h) (first_some late known (shape c))
 
 -- The reader's number for bytes that open to c is that of shape or times.
-read_number : (m n : ℕ) (c : Call) → (or_refused m (accepted c)).answer ≡ Refused n → (m ≡ n) × (n ≢ 0)
+read_number : (m n : ℕ) (c : Call) → (or_refused m (accepted c)).answer ≡ Err n → (m ≡ n) × (n ≢ 0)
 read_number zero n c e = let z : ◌≡◌ {A = ℕ} 0 1 = cc in absurd (omega arith)
 read_number (suc m) n c e = let q : suc m ≡ n = cc in (q, λ z. omega arith)
 
@@ -87,7 +87,7 @@ unfolding judged
 refused_by_reader day k s n v e =
     rw (step_on day k s v)
     (opened_cases s
-    (λ r. (judged day r.answer r).answer ≡ Refused n → step_opened day k r.answer r.list ≡ answered k (number_for k r.answer r.list) (runner k))
+    (λ r. (judged day r.answer r).answer ≡ Err n → step_opened day k r.answer r.list ≡ answered k (number_for k r.answer r.list) (runner k))
     (λ e. refl) (λ c e. let (q, h) = read_number (refusal day c) n c e in carried day k c (λ z. h (sym q ∙ z))) e)
 
 -- ---- where the numbers part
@@ -132,23 +132,23 @@ module _ (day : ℕ) (k : State) (s : List ℕ) (c : Call) (v : kernel_refusal d
   stepped : step day k s ≡ carry_on day k c
   stepped = step_on day k s v ∙ rw o
 
-  read : (n : ℕ) → (reading day s).answer ≡ Refused n → (refusal day c ≡ n) × (n ≢ 0)
+  read : (n : ℕ) → (reading day s).answer ≡ Err n → (refusal day c ≡ n) × (n ≢ 0)
   unfolding judged
   read n e = read_number (refusal day c) n c (rw o at e)
 
   -- What the reader refuses, by its number.
-  by_reader : (n m : ℕ) → (reading day s).answer ≡ Refused n → number_for k (Accepted c.head) c.list ≡ m → step day k s ≡ answered k m (runner k)
+  by_reader : (n m : ℕ) → (reading day s).answer ≡ Err n → number_for k (Ok c.head) c.list ≡ m → step day k s ≡ answered k m (runner k)
   by_reader n m e q = let (r, h) = read n e in stepped ∙ carried day k c (λ z. h (sym r ∙ z)) ∙ ap (λ (i : ℕ). answered k i (runner k)) q
 
   two : k.begun ≡ true → declares c.head.mark ≡ true → refusal_of day k c ≡ 2
   unfolding refusal_of formal_refusal
   two b d = rw (b, d)
 
-  shape_read : (n : ℕ) → (reading day s).answer ≡ Refused n → n ≢ 6 → shape c ≡ n
+  shape_read : (n : ℕ) → (reading day s).answer ≡ Err n → n ≢ 6 → shape c ≡ n
   unfolding refusal
   shape_read n e g = let (r, h) = read n e in shape_first (shape c) (times day c.head) n (times_six day c) r h g
 
-  shape_passed : (reading day s).answer ≡ Refused 6 → shape c ≡ 0
+  shape_passed : (reading day s).answer ≡ Err 6 → shape c ≡ 0
   unfolding refusal
   shape_passed e = times_last (shape c) (times day c.head) (shape_small c) (read 6 e).0
 

@@ -1,4 +1,5 @@
 -- Two states of tasks and locks that are alike in what is declared: serving keeps them so.
+use Rattle.std.specs.Prelude.{None, Some}
 use mathlib.Core.Path.{◌≡◌, refl}
 use mathlib.Core.List.{List}
 use Prim.Native.Nat.{ℕ, zero, suc, ◌<◌}
@@ -14,15 +15,13 @@ use Rattle.task.specs.State.{no_task, wanted, wait_over}
 use Rattle.task.specs.declared.Task.{Task}
 use Rattle.task.proofs.Waits.{NoNewWait}
 use Rattle.machine.specs.declared.Counts.{Counts}
-use Rattle.machine.specs.declared.Running.{Running}
-use Rattle.machine.specs.declared.Running.TheVariants.{Idle, Runs}
+use Rattle.machine.specs.Running.{Running, urgency}
 use Rattle.machine.specs.State.{most_tasks, most_semaphores, most_bolts, task_at, place_at}
 use Rattle.machine.specs.Granting.{servable}
 use Rattle.machine.specs.Serving.{Served, next_served, grant_to, serve}
 use Rattle.machine.proofs.Urgency.{scan_same}
 use Rattle.machine.proofs.Passed.{Listed, Fits}
 use Rattle.machine.proofs.Looks.{urgency_same, servable_same}
-use Rattle.machine.specs.Running.{urgency}
 use Rattle.machine.proofs.Below.{Found, scan_finds}
 
 -- Each wait's list is declared.
@@ -84,6 +83,6 @@ module _ (n : Counts) (f : Fits n) where
       where
         go : ((q q' : Served) → PairOf q q' → PairOf (serve n.tasks ps turns q) (serve n.tasks ps' turns q'))
             → (r : Running) → Found n.tasks (servable n.tasks p.tasks p.locks) (urgency ps p.tasks) r
-            → PairOf (elim r [ Idle ↦ p | Runs i ↦ serve n.tasks ps turns (grant_to i p) ]) (elim r [ Idle ↦ p' | Runs i ↦ serve n.tasks ps' turns (grant_to i p') ])
-        go ih Idle c = h
-        go ih (Runs i) c = ih (grant_to i p) (grant_to i p') (grant_pair p p' h i c.0)
+            → PairOf (elim r [ None ↦ p | Some i ↦ serve n.tasks ps turns (grant_to i p) ]) (elim r [ None ↦ p' | Some i ↦ serve n.tasks ps' turns (grant_to i p') ])
+        go ih None c = h
+        go ih (Some i) c = ih (grant_to i p) (grant_to i p') (grant_pair p p' h i c.0)

@@ -6,9 +6,8 @@ use native.Mathlib.Omega.{arith}
 use lib.Dec.{leb, ltb, eqb}
 use borrow.Author.Tests.{leb-true, ltb-true}
 use Rattle.calendar.specs.Limits.{last_instant, is_time_of_day}
-use Rattle.calendar.specs.Moments.{comes_by}
+use Rattle.calendar.specs.Moments.{comes_by, Moment}
 use Rattle.calendar.specs.declared.Instant.{Instant}
-use Rattle.calendar.specs.declared.Moment.{Moment}
 use Rattle.layout.specs.Marks.{is, form}
 use Rattle.layout.specs.declared.Mark.{Mark}
 use Rattle.layout.specs.declared.Mark.TheVariants.{DT, DS, DB, IT, AC, TE, SU, TI, SL}
@@ -25,11 +24,10 @@ use Rattle.task.specs.declared.Task.{Task}
 use Rattle.machine.proofs.Below.{all_at}
 use Rattle.machine.specs.declared.Counts.{Counts}
 use Rattle.machine.specs.declared.State.{State}
-use Rattle.machine.specs.declared.Running.{Running}
+use Rattle.machine.specs.Running.{Running, someone}
 use Rattle.machine.specs.State.{most_tasks, most_semaphores, most_bolts, most_interrupts, task_at, count_of}
 use Rattle.machine.specs.Sums.{all_below}
 use Rattle.machine.specs.Test.{between, is_priority, kept_ok, hold_ok, wait_ok, schedule_ok, continuation_ok, task_ok, counts_ok, places_ok, nobody_servable, valid}
-use Rattle.machine.specs.Running.{someone}
 use Rattle.machine.specs.Sorts.{sort_of, declares, needs_runner, given_kind}
 use Rattle.machine.specs.Refusals.{declared_in, room_for, formal_refusal, unreturnable, is_continue, refusal_by, state_refusal}
 use Rattle.layout.specs.Fields.{most_numbers}

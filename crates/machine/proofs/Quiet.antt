@@ -10,7 +10,7 @@ use borrow.Author.Tests.{le-leb, lt-ltb}
 use Rattle.calendar.specs.Limits.{last_instant}
 use Rattle.calendar.specs.Times.{duration, plus}
 use Rattle.calendar.specs.declared.Instant.{Instant}
-use Rattle.calendar.specs.declared.Moment.{Moment}
+use Rattle.calendar.specs.Moments.{Moment}
 use Rattle.layout.specs.Marks.{among}
 use Rattle.layout.specs.Fields.{call_of, head_of, list_of, bytes_of}
 use Rattle.layout.specs.declared.Call.{Call}

@@ -1,12 +1,12 @@
 -- What a refused step leaves, and its number.
+use Rattle.std.specs.Prelude.{None}
 use mathlib.Core.Path.{◌≡◌, refl}
 use mathlib.Core.Logic.{◌≢◌}
 use mathlib.Core.List.{List, [], ◌∷◌}
 use Prim.Native.Nat.{ℕ, zero, suc}
 use native.Mathlib.Omega.{arith}
 use Rattle.machine.specs.declared.State.{State}
-use Rattle.machine.specs.declared.Running.{Running}
-use Rattle.machine.specs.declared.Running.TheVariants.{Idle}
+use Rattle.machine.specs.Running.{Running}
 use Rattle.machine.specs.Test.{kernel_refusal}
 use Rattle.machine.specs.Step.{plain_answer, answered, step}
 use Rattle.machine.specs.Log.{final, log}
@@ -38,7 +38,7 @@ misfiled_refused day k s v m = rw (v, filed_not k m)
 
 -- ---- a list of records
 
-pub turned_away_law : (day n : ℕ) (k : State) (s : List ℕ) → kernel_refusal day k ≡ suc n → step day k s ≡ record { state = k; answer = plain_answer (suc n) Idle }
+pub turned_away_law : (day n : ℕ) (k : State) (s : List ℕ) → kernel_refusal day k ≡ suc n → step day k s ≡ record { state = k; answer = plain_answer (suc n) None }
 unfolding step answered
 turned_away_law day n k s e = rw e
 

@@ -1,4 +1,5 @@
 -- An alarm and a schedule keep their limits when they come due, when their interrupt sets them off and when a call gives them.
+use Rattle.std.specs.Prelude.{None, Some}
 use mathlib.Core.Path.{◌≡◌, refl}
 use mathlib.Core.Bool.{Bool, true, false, not, ◌&&◌, ◌||◌}
 use Prim.Native.Nat.{ℕ, zero, suc, ◌+◌, ◌≤◌}
@@ -10,8 +11,7 @@ use Rattle.calendar.specs.Dues.{last_allowed, next_due}
 use Rattle.calendar.specs.declared.Instant.{Instant}
 use Rattle.calendar.specs.declared.End.{End}
 use Rattle.calendar.specs.declared.End.TheVariants.{Open, Until, During}
-use Rattle.calendar.specs.declared.Moment.{Moment}
-use Rattle.calendar.specs.declared.Moment.TheVariants.{Never, At}
+use Rattle.calendar.specs.Moments.{Moment}
 use Rattle.calendar.proofs.Bounds.{ShortStart, ShortEnd, Within, first_within, last_within, next_within, within_more}
 use Rattle.record.specs.Refusals.{Used, on_interrupt, at_time, after_duration, start, or_zero, clean_start, ranged, end_timed, first_timed, start_timed, start_formed}
 use Rattle.layout.specs.declared.Head.{Head}
@@ -30,8 +30,8 @@ short_end day (Until t) h = tt
 short_end day (During d) h = leb-true d.0 longest_duration (both (leb 1 d.0) _ h).1
 
 moment_stored : (m : Moment) → Within most_instant m → moment_ok m ≡ true
-moment_stored Never h = refl
-moment_stored (At n) h = le-leb n.0 most_instant h
+moment_stored None h = refl
+moment_stored (Some n) h = le-leb n.0 most_instant h
 
 pub terms_parts : (day : ℕ) (s : Schedule) → terms_ok day s ≡ true → (is_priority s.priority ≡ true) × (s.period ≤ longest_duration) × (end_ok day s.end ≡ true)
 terms_parts day s e =
@@ -147,13 +147,13 @@ module _ (day ni : ℕ) where
 
   advanced_ok : (m : Moment) (s : Schedule) → Within most_instant m → Parts s → Ok (advanced m s)
   unfolding alarm_ok schedule_ok
-  advanced_ok (At x) s h p =
+  advanced_ok (Some x) s h p =
       of_parts (with_alarm (coming_at s.alarm.plan x s.alarm) s) (record {
         alarm = and_both (heard ni s.alarm p.alarm) (then_or (pending s.alarm.plan) _ (λ q. le-leb x.0 most_instant h));
         last = p.last;
         terms = p.terms;
       })
-  advanced_ok Never s h p =
+  advanced_ok None s h p =
       by_bool (listening s.alarm.plan)
       (λ q. rw q (of_parts (with_alarm (rearmed s.alarm) s) (record { alarm = rearmed_ok ni s.alarm p.alarm q; last = refl; terms = p.terms })))
       (λ q. rw q refl)

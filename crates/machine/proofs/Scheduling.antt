@@ -1,4 +1,5 @@
 -- What ACTIVATE, PREVENT and TRIGGER make of a schedule, and that it comes due in time.
+use Rattle.std.specs.Prelude.{None, Option, Some}
 use mathlib.Core.Path.{◌≡◌, refl, sym, ap, subst, ◌∙◌}
 use mathlib.Core.Bool.{Bool, true, false, not, ◌&&◌, ◌||◌}
 use mathlib.Core.List.{List}
@@ -12,8 +13,7 @@ use Rattle.calendar.specs.Dues.{first_due, last_allowed, next_due}
 use Rattle.calendar.specs.declared.Instant.{Instant}
 use Rattle.calendar.specs.declared.End.{End}
 use Rattle.calendar.specs.declared.End.TheVariants.{Open, Until, During}
-use Rattle.calendar.specs.declared.Moment.{Moment}
-use Rattle.calendar.specs.declared.Moment.TheVariants.{Never, At}
+use Rattle.calendar.specs.Moments.{Moment}
 use Rattle.calendar.proofs.Theorems.{at_is_next, end_is_next}
 use Rattle.layout.specs.declared.Call.{Call}
 use Rattle.layout.specs.declared.Head.{Head}
@@ -32,8 +32,6 @@ use Rattle.task.specs.State.{with_schedule}
 use Rattle.task.specs.Continuations.{or_else, with_next, continue_at, called_by}
 use Rattle.task.specs.Turns.{unmarked, due_if, prevent_turn, fall_turn, plan_turn, start_turn, trigger_turn}
 use Rattle.task.specs.Continuing.{SameHold}
-use Rattle.task.specs.declared.Kept.{Kept}
-use Rattle.task.specs.declared.Kept.TheVariants.{Empty, Back}
 use Rattle.task.specs.declared.Task.{Task}
 use Rattle.task.specs.declared.Turn.{Turn}
 use Rattle.task.proofs.Continuing.{else, at_other, at_due, left_alone, same_then}
@@ -58,7 +56,7 @@ use Rattle.machine.proofs.Continuing.{sched, named_turn_law, prevent_turn_law, t
 -- ---- a due
 
 -- The moment is none, or an instant.
-never_at : {X : Type 0} {m : Instant} → At m ≡ Never → X
+never_at : {X : Type 0} {m : Instant} → Some m ≡ None → X
 never_at e = absurd (let z : ◌≡◌ {A = ℕ} 0 1 = cc in omega arith)
 
 same_terms : (s : Schedule) (a : Alarm) → a.interrupt ≡ s.alarm.interrupt → a.delay ≡ s.alarm.delay → SameTerms s (with_alarm a s) × ((with_alarm a s).last ≡ s.last)
@@ -69,37 +67,37 @@ unfolding advance
 goes_of n s p = go (next_due s.period s.last n) refl
   where
     go : (m : Moment) → next_due s.period s.last n ≡ m → Goes n s (advanced m s)
-    go (At m) e =
-        let here : next_of (coming_at s.alarm.plan m s.alarm) ≡ At m = rw p in
+    go (Some m) e =
+        let here : next_of (coming_at s.alarm.plan m s.alarm) ≡ Some m = rw p in
         record {
           next = here ∙ sym e;
           again = λ z w. never_at (sym here ∙ z);
           gone = λ z w. never_at (sym here ∙ z);
           terms = λ z. same_terms s (coming_at s.alarm.plan m s.alarm) refl refl;
         }
-    go Never e =
+    go None e =
         by_bool (listening s.alarm.plan)
-        (λ q. let own : with_alarm (rearmed s.alarm) s ≡ advanced Never s = rw q in
+        (λ q. let own : with_alarm (rearmed s.alarm) s ≡ advanced None s = rw q in
         subst (λ (v : Schedule). Goes n s v) own
         (record { next = sym e; again = λ z w. refl; gone = λ z w. contra q w; terms = λ z. same_terms s (rearmed s.alarm) refl refl }))
-        (λ q. let own : no_schedule ≡ advanced Never s = rw q in
+        (λ q. let own : no_schedule ≡ advanced None s = rw q in
         subst (λ (v : Schedule). Goes n s v) own
         (record { next = sym e; again = λ z w. contra w q; gone = λ z w. refl; terms = λ z. contra z refl }))
 
 -- A due leaves the schedule, and is marked.
-pub due_schedule : (a : Bool) (k : Kept) (p : ℕ) (t : Task) → ((due_if a k p t).task.schedule ≡ t.schedule) × ((due_if a k p t).marks.due ≡ true)
+pub due_schedule : (a : Bool) (k : Option ℕ) (p : ℕ) (t : Task) → ((due_if a k p t).task.schedule ≡ t.schedule) × ((due_if a k p t).marks.due ≡ true)
 unfolding due_if
 due_schedule false k p t = (refl, refl)
-due_schedule true Empty p t = (refl, refl)
-due_schedule true (Back q) p t = (refl, refl)
+due_schedule true None p t = (refl, refl)
+due_schedule true (Some q) p t = (refl, refl)
 
 -- Who lives, or has no start due, goes on.
-due_goes : (a : Bool) (k : Kept) (p : ℕ) (t : Task) → (a || not (due_if a k p t).marks.due) ≡ true
+due_goes : (a : Bool) (k : Option ℕ) (p : ℕ) (t : Task) → (a || not (due_if a k p t).marks.due) ≡ true
     → ((due_if a k p t).task.alive ≡ t.alive) × SameHold t (due_if a k p t).task
 unfolding due_if
 due_goes false k p t e = contra e refl
-due_goes true Empty p t e = (refl, record { hold = refl; current = refl })
-due_goes true (Back q) p t e = (refl, record { hold = refl; current = refl })
+due_goes true None p t e = (refl, record { hold = refl; current = refl })
+due_goes true (Some q) p t e = (refl, record { hold = refl; current = refl })
 
 -- ---- what falls on n
 
@@ -289,7 +287,7 @@ activate_turn day clock n m h t e s = rw (e, sched h.kind s)
 
 -- ---- PREVENT and TRIGGER
 
-prevented_start : (t : Task) → ((prevent_turn t).task.schedule ≡ no_schedule) × ((prevent_turn t).task.kept ≡ Empty) × ((prevent_turn t).task.alive ≡ t.alive)
+prevented_start : (t : Task) → ((prevent_turn t).task.schedule ≡ no_schedule) × ((prevent_turn t).task.kept ≡ None) × ((prevent_turn t).task.alive ≡ t.alive)
 unfolding prevent_turn
 prevented_start t = (refl, refl, refl)
 

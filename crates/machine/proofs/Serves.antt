@@ -1,11 +1,11 @@
 -- Serving grants one list after the other, whole, until nobody waits on a list that could be granted.
+use Rattle.std.specs.Prelude.{None, Some}
 use mathlib.Core.Path.{◌≡◌, refl}
 use mathlib.Core.Bool.{true}
 use Prim.Native.Nat.{ℕ, zero, suc, ◌≤◌}
 use native.Mathlib.Omega.{arith}
 use mathlib.Core.List.{List}
-use Rattle.machine.specs.declared.Running.{Running}
-use Rattle.machine.specs.declared.Running.TheVariants.{Idle, Runs}
+use Rattle.machine.specs.Running.{Running}
 use Rattle.machine.specs.Granting.{servable}
 use Rattle.machine.specs.Serving.{Served, next_served, grant_to, serve}
 use Rattle.machine.specs.Promises.{Chosen, AreBytes}
@@ -31,9 +31,9 @@ serve_loops n ps (suc turns) p h w = go (λ q. serve_loops n ps turns q h) (next
   where
     go : ((q : Served) → waiters n q.tasks ≤ turns → Loop n ps q (serve n ps turns q))
         → (r : Running) → Chosen n (servable n p.tasks p.locks) ps p.tasks r
-        → Loop n ps p (elim r [ Idle ↦ p | Runs i ↦ serve n ps turns (grant_to i p) ])
-    go ih Idle c = Loop.stop c
-    go ih (Runs i) c =
+        → Loop n ps p (elim r [ None ↦ p | Some i ↦ serve n ps turns (grant_to i p) ])
+    go ih None c = Loop.stop c
+    go ih (Some i) c =
         Loop.next i c (grant_whole n p i c.passes) (ih (grant_to i p) (omega (arith, grant_fewer n p i c.below c.passes)))
 
 pub serves_all : ServesAll

@@ -1,4 +1,5 @@
 -- Serving: what each grant keeps all of them keep, and in the end nobody waits on a list that could be granted.
+use Rattle.std.specs.Prelude.{is_some, None, Some}
 use mathlib.Core.Path.{◌≡◌, refl, ◌∙◌}
 use mathlib.Core.Logic.{◌≢◌}
 use mathlib.Core.Bool.{Bool, true, false, ◌&&◌}
@@ -15,16 +16,14 @@ use Rattle.lock.specs.Locks.{bit, waiting, all_free}
 use Rattle.facts.proofs.Bools.{by_bool, by_eq, contra, both}
 use Rattle.lock.proofs.Levels.{Proper, SameSize}
 use Rattle.lock.proofs.Taking.{move_size, move_most}
-use Rattle.task.specs.State.{no_task, unheld, is_kept, wanted, wait_over}
+use Rattle.task.specs.State.{no_task, unheld, wanted, wait_over}
 use Rattle.task.specs.declared.Task.{Task}
 use Rattle.task.proofs.Fairness.{rest_facts}
 use Rattle.machine.specs.declared.State.{State}
 use Rattle.machine.specs.declared.Counts.{Counts}
-use Rattle.machine.specs.declared.Running.{Running}
-use Rattle.machine.specs.declared.Running.TheVariants.{Idle, Runs}
+use Rattle.machine.specs.Running.{Running, urgency}
 use Rattle.machine.specs.Sums.{sum_below}
 use Rattle.machine.specs.State.{task_at, count_of}
-use Rattle.machine.specs.Running.{urgency}
 use Rattle.machine.specs.Granting.{could_be_granted, servable}
 use Rattle.machine.specs.Serving.{Served, next_served, grant_to, serve}
 use Rattle.machine.specs.Invariants.{ServingEnds}
@@ -65,9 +64,9 @@ unfolding serve
 serve_keeps n ps P one zero p h = h
 serve_keeps n ps P one (suc turns) p h = go (λ q. serve_keeps n ps P one turns q) (next_served n ps p) refl
   where
-    go : ((q : Served) → P q → P (serve n ps turns q)) → (r : Running) → next_served n ps p ≡ r → P (elim r [ Idle ↦ p | Runs i ↦ serve n ps turns (grant_to i p) ])
-    go ih Idle e = h
-    go ih (Runs j) e =
+    go : ((q : Served) → P q → P (serve n ps turns q)) → (r : Running) → next_served n ps p ≡ r → P (elim r [ None ↦ p | Some i ↦ serve n ps turns (grant_to i p) ])
+    go ih None e = h
+    go ih (Some j) e =
         let u = most_urgent_at n (servable n p.tasks p.locks) _ j e in
         ih (grant_to j p) (one p j u.0 u.1 h)
 
@@ -106,9 +105,9 @@ serve_ends n ps (suc turns) p w = go (λ q. serve_ends n ps turns q) (next_serve
   where
     go : ((q : Served) → waiters n q.tasks ≤ turns → (i : ℕ) → i < n → servable n (serve n ps turns q).tasks (serve n ps turns q).locks i ≡ false)
         → (r : Running) → next_served n ps p ≡ r
-        → (i : ℕ) → i < n → servable n (elim r as (λ _. Served) [ Idle ↦ p | Runs i ↦ serve n ps turns (grant_to i p) ]).tasks (elim r as (λ _. Served) [ Idle ↦ p | Runs i ↦ serve n ps turns (grant_to i p) ]).locks i ≡ false
-    go ih Idle e = most_urgent_idle n (servable n p.tasks p.locks) _ e
-    go ih (Runs j) e =
+        → (i : ℕ) → i < n → servable n (elim r as (λ _. Served) [ None ↦ p | Some i ↦ serve n ps turns (grant_to i p) ]).tasks (elim r as (λ _. Served) [ None ↦ p | Some i ↦ serve n ps turns (grant_to i p) ]).locks i ≡ false
+    go ih None e = most_urgent_idle n (servable n p.tasks p.locks) _ e
+    go ih (Some j) e =
         let u = most_urgent_at n (servable n p.tasks p.locks) _ j e in
         ih (grant_to j p) (omega (arith, grant_fewer n p j u.0 u.1))
 
@@ -127,7 +126,7 @@ over_ok day n t h =
       rests =
           by_bool t.alive (λ e. rw e)
           (λ e.
-          let r = rest_facts t.alive (is_kept t.kept) (waiting t.wait) (unheld t.hold) h.rests e in
+          let r = rest_facts t.alive (is_some t.kept) (waiting t.wait) (unheld t.hold) h.rests e in
           rw (e, r.0, r.2));
       listed = λ e. contra e refl;
       schedule_ok_law = h.schedule_ok_law;

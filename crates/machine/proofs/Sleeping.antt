@@ -1,4 +1,5 @@
 -- A sleep is so many ticks.
+use Rattle.std.specs.Prelude.{None, Some}
 use mathlib.Core.Path.{◌≡◌, refl, sym, ap, subst, ◌∙◌}
 use mathlib.Core.Bool.{true, false}
 use mathlib.Core.List.{List}
@@ -8,10 +9,8 @@ use lib.ListN.{length}
 use borrow.Author.Tests.{le-leb, lt-ltb}
 use Rattle.calendar.specs.Limits.{last_instant}
 use Rattle.calendar.specs.Times.{instant, duration, plus}
-use Rattle.calendar.specs.Moments.{earlier_than, comes_by, instant_or, first_after}
+use Rattle.calendar.specs.Moments.{earlier_than, comes_by, instant_or, first_after, Moment}
 use Rattle.calendar.specs.declared.Instant.{Instant}
-use Rattle.calendar.specs.declared.Moment.{Moment}
-use Rattle.calendar.specs.declared.Moment.TheVariants.{Never, At}
 use Rattle.layout.specs.Marks.{among}
 use Rattle.layout.specs.Fields.{call_of, head_of, bytes_of}
 use Rattle.layout.specs.declared.Call.{Call}
@@ -43,7 +42,7 @@ filed_is_next day k v = subst (λ (m : Moment). IsNextEvent k m) (sym (taken_nex
 
 pub none_is_for_good : NoneIsForGood
 none_is_for_good day d k room v e l =
-    let n : next_event k ≡ Never = sym (taken_next day k v) ∙ e in
+    let n : next_event k ≡ None = sym (taken_next day k v) ∙ e in
     (quiet_up_to_next day d k room v (rw n refl) l).0
 
 -- ---- after a call
@@ -65,7 +64,7 @@ module _ (day : ℕ) (k : State) (v : kernel_refusal day k ≡ 0) where
   unfolding step settle carry_out declares work_by arrival admitted_if refusal_by opened among head_of bytes_of
   sleep_step c = rw (v, (time_formed day k.counts k.begun).1)
 
-  pub sleep_to : (x : Instant) → next_event k ≡ At x → x.0 ≤ last_instant → step day k sleep ≡ finish k (arrive k x)
+  pub sleep_to : (x : Instant) → next_event k ≡ Some x → x.0 ≤ last_instant → step day k sleep ≡ finish k (arrive k x)
   unfolding refusal_by
   sleep_to x e l = sleep_step (call_of SL sleep) ∙ rw (e, le-leb x.0 last_instant l)
 
@@ -93,7 +92,7 @@ tick_to day k x room v e l =
 
 pub sleep_is_ticks : SleepIsTicks
 sleep_is_ticks day k x room v e l =
-    let n : next_event k ≡ At x = sym (taken_next day k v) ∙ e in
+    let n : next_event k ≡ Some x = sym (taken_next day k v) ∙ e in
     let late : k.now.0 < x.0 = (next_is_next k).later x n in
     let d = x.0 - k.now.0 - 1 in
     let reach : k.now.0 + suc d ≡ x.0 = omega arith in

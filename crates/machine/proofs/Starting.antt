@@ -1,4 +1,5 @@
 -- The turn that each declared task has in an accepted call: the priority that its start takes, and the marks that it has.
+use Rattle.std.specs.Prelude.{None, Some}
 use mathlib.Core.Path.{◌≡◌, refl, sym, ap, subst, ◌∙◌}
 use mathlib.Core.Logic.{◌≢◌}
 use mathlib.Core.Bool.{Bool, true, false, not, cond, ◌&&◌, ◌||◌, and-false, or-false}
@@ -37,8 +38,7 @@ use Rattle.task.specs.declared.Turn.{Turn}
 use Rattle.task.proofs.Laws.{given_taken}
 use Rattle.task.proofs.Starting.{takes_none, turns_take, turns_mark, living_goes_on, schedules_keep}
 use Rattle.machine.specs.declared.Change.{Change}
-use Rattle.machine.specs.declared.Running.{Running}
-use Rattle.machine.specs.declared.Running.TheVariants.{Idle, Runs}
+use Rattle.machine.specs.Running.{Running, runner, someone}
 use Rattle.machine.specs.declared.Sets.{Sets}
 use Rattle.machine.specs.declared.Sort.{Sort}
 use Rattle.machine.specs.declared.Sort.TheVariants.{Declaration, OneTask, TheRunner, ListAsked, ListGiven, AnInterrupt, EveryTask}
@@ -46,7 +46,6 @@ use Rattle.machine.specs.declared.State.{State}
 use Rattle.machine.specs.declared.Stepped.{Stepped}
 use Rattle.machine.specs.Sets.{Set, Due, Started, Ended, Lost, has, holds, mark, members, marks_of}
 use Rattle.machine.specs.State.{task_at, enabled_at, fresh_task}
-use Rattle.machine.specs.Running.{runner, someone}
 use Rattle.machine.specs.Granting.{could_be_granted}
 use Rattle.machine.specs.Sorts.{sort_of, declaring, declares, needs_runner, naming, runner_at}
 use Rattle.machine.specs.Work.{Work, by_turn, by_locks, changed, only_enabled, every_turn}
@@ -347,8 +346,8 @@ module _ (day : ℕ) (k : State) (v : valid day k ≡ true) (c : Call) (p : Pass
 
       go : (r : Running) → runner k ≡ r → someone r ≡ true
           → Got (changed k (runner_at r) (by_turn k.locks (runner_turn day k.clock k.now m c.head (task_at k.tasks (runner_at r)))))
-      go Idle e y = contra y refl
-      go (Runs j) e y =
+      go None e y = contra y refl
+      go (Some j) e y =
           got_one j (λ u. by_turn k.locks (runner_turn day k.clock k.now m c.head u))
           (λ x n. runner_fits q (rw (e, eq-eqb j i (sym x))) n)
           (λ x n. fits_idle n t false refl refl refl (without z n)

@@ -17,13 +17,12 @@ use Rattle.facts.proofs.Bools.{by_bool, by_eq, contra, both}
 use Rattle.task.specs.State.{no_task, unheld, runnable}
 use Rattle.task.specs.declared.Task.{Task}
 use Rattle.machine.specs.declared.State.{State}
-use Rattle.machine.specs.declared.Running.{Running}
+use Rattle.machine.specs.Running.{Running, urgency, running_of, most_urgent}
 use Rattle.machine.specs.declared.Stepped.{Stepped}
 use Rattle.machine.specs.Sets.{Started}
 use Rattle.machine.specs.State.{most_tasks, task_at, place_at, fresh_task, nothing}
 use Rattle.calendar.specs.Moments.{first_after}
 use Rattle.machine.specs.NextEvent.{all_pending, next_among}
-use Rattle.machine.specs.Running.{urgency, running_of, most_urgent}
 use Rattle.machine.specs.Places.{event, stands_before}
 use Rattle.machine.specs.Work.{Work}
 use Rattle.machine.specs.Test.{valid}

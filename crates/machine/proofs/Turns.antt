@@ -1,4 +1,5 @@
 -- A task's turn keeps the limits of the kernel test.
+use Rattle.std.specs.Prelude.{is_some, None, Option, Some}
 use mathlib.Core.Path.{◌≡◌, refl}
 use mathlib.Core.Bool.{Bool, true, false, not, ◌||◌}
 use Prim.Native.Nat.{ℕ, zero, suc, ◌≤◌}
@@ -13,7 +14,7 @@ use Rattle.layout.specs.declared.Form.TheVariants.{Continuation, Resumption}
 use Rattle.layout.specs.declared.Head.{Head}
 use Rattle.lock.specs.Locks.{waiting}
 use Rattle.facts.proofs.Bools.{by_bool, contra, both, and_both, or_right}
-use Rattle.task.specs.State.{unheld, is_kept, with_kept, with_hold, with_current, with_schedule, with_continuation}
+use Rattle.task.specs.State.{unheld, with_kept, with_hold, with_current, with_schedule, with_continuation}
 use Rattle.schedule.specs.Alarms.{pending, listening, planned, falls, listens}
 use Rattle.schedule.specs.Schedules.{no_schedule, advance, triggered}
 use Rattle.task.specs.Continuations.{or_else, goes_on, dropped, spent, continued, continue_at, called_by}
@@ -21,8 +22,6 @@ use Rattle.task.specs.Turns.{unmarked, started, terminated, due_if, due_turn, en
 use Rattle.schedule.specs.declared.Alarm.{Alarm}
 use Rattle.task.specs.declared.Hold.{Hold}
 use Rattle.task.specs.declared.Hold.TheVariants.{Unheld, Suspended, Delayed}
-use Rattle.task.specs.declared.Kept.{Kept}
-use Rattle.task.specs.declared.Kept.TheVariants.{Empty, Back}
 use Rattle.schedule.specs.declared.Schedule.{Schedule}
 use Rattle.task.specs.declared.Task.{Task}
 use Rattle.task.specs.declared.Turn.{Turn}
@@ -72,7 +71,7 @@ module _ (day : ℕ) (n : Counts) where
         continuation_ok_law = h.continuation_ok_law;
       }
 
-  back_ok : (p : ℕ) (t : Task) → t.alive ≡ true → is_priority p ≡ true → In t → In (with_kept (Back p) t)
+  back_ok : (p : ℕ) (t : Task) → t.alive ≡ true → is_priority p ≡ true → In t → In (with_kept (Some p) t)
   back_ok p t a q h =
       record {
         declared_ok = h.declared_ok;
@@ -109,7 +108,7 @@ module _ (day : ℕ) (n : Counts) where
         rests =
             by_bool t.alive (λ e. rw e)
             (λ e.
-            let r = rest_facts t.alive (is_kept t.kept) (waiting t.wait) (unheld t.hold) h.rests e in
+            let r = rest_facts t.alive (is_some t.kept) (waiting t.wait) (unheld t.hold) h.rests e in
             by_bool (unheld g) (λ z. rw (e, r.0, r.1, z)) (λ z. contra (a z) e));
         listed = h.listed;
         schedule_ok_law = h.schedule_ok_law;
@@ -131,19 +130,19 @@ module _ (day : ℕ) (n : Counts) where
 
   -- ---- due and end
 
-  due_in_law : (a : Bool) (b : Kept) (p : ℕ) (t : Task) → t.alive ≡ a → is_priority p ≡ true → In t → In (due_if a b p t).task
+  due_in_law : (a : Bool) (b : Option ℕ) (p : ℕ) (t : Task) → t.alive ≡ a → is_priority p ≡ true → In t → In (due_if a b p t).task
   unfolding due_if
   due_in_law false b p t a q h = running_ok p t q h
-  due_in_law true Empty p t a q h = back_ok p t a q h
-  due_in_law true (Back r) p t a q h = h
+  due_in_law true None p t a q h = back_ok p t a q h
+  due_in_law true (Some r) p t a q h = h
 
   due_ok : (p : ℕ) (t : Task) → is_priority p ≡ true → In t → In (due_turn p t).task
   due_ok p t q h = due_in_law t.alive t.kept p t refl q h
 
-  end_in : (b : Kept) (t : Task) → kept_ok b ≡ true → In t → In (end_if b t).task
+  end_in : (b : Option ℕ) (t : Task) → kept_ok b ≡ true → In t → In (end_if b t).task
   unfolding end_if
-  end_in Empty t q h = terminated_ok t h
-  end_in (Back p) t q h = running_ok p t q h
+  end_in None t q h = terminated_ok t h
+  end_in (Some p) t q h = running_ok p t q h
 
   pub good_due : (p : ℕ) (t : Task) → is_priority p ≡ true → In t → Good day n false t (due_turn p t)
   good_due p t q h = record { fair = fair_due p t h.rests; ok = due_ok p t q h }
@@ -151,7 +150,7 @@ module _ (day : ℕ) (n : Counts) where
   pub good_end : (t : Task) → t.alive ≡ true → In t → Good day n false t (end_turn t)
   good_end t a h = record { fair = fair_end t a; ok = end_in t.kept t h.kept_ok_law h }
 
-  prevent_in : (t : Task) → In t → In (dropped (with_schedule no_schedule (with_kept Empty t)))
+  prevent_in : (t : Task) → In t → In (dropped (with_schedule no_schedule (with_kept None t)))
   prevent_in t h =
       record {
         declared_ok = h.declared_ok;
@@ -161,7 +160,7 @@ module _ (day : ℕ) (n : Counts) where
         rests =
             by_bool t.alive (λ e. rw e)
             (λ e.
-            let r = rest_facts t.alive (is_kept t.kept) (waiting t.wait) (unheld t.hold) h.rests e in
+            let r = rest_facts t.alive (is_some t.kept) (waiting t.wait) (unheld t.hold) h.rests e in
             rw (e, r.1, r.2));
         listed = h.listed;
         schedule_ok_law = unfold schedule_ok in refl;

@@ -1,4 +1,5 @@
 -- What touches no continuation leaves it as it is: one step, and a list of records.
+use Rattle.std.specs.Prelude.{Err, Ok}
 use mathlib.Core.Path.{◌≡◌, refl, ◌∙◌}
 use mathlib.Core.Bool.{true, false, ◌&&◌, ◌||◌, and-true}
 use mathlib.Core.List.{List, [], ◌∷◌}
@@ -13,9 +14,7 @@ use Rattle.layout.specs.declared.Head.{Head}
 use Rattle.layout.specs.declared.Mark.{Mark}
 use Rattle.layout.specs.declared.Mark.TheVariants.{AC, TE, SU, PR, CO, RE, TG, TI, SL}
 use Rattle.record.specs.Refusals.{scheduled, named}
-use Rattle.record.specs.Reading.{opened}
-use Rattle.record.specs.declared.Read.{Read}
-use Rattle.record.specs.declared.Read.TheVariants.{Refused, Accepted}
+use Rattle.record.specs.Reading.{opened, Read}
 use Rattle.lock.specs.declared.Wait.{Wait}
 use Rattle.facts.proofs.Bools.{by_bool, neither}
 use Rattle.task.specs.State.{wait_for}
@@ -98,8 +97,8 @@ waits w n l t = has (wait_for w n l t)
 
 -- What touches a continuation, as a test of calls.
 touches_met : (k : State) (r : Read) (l : List ℕ) (i : ℕ) → met_by touches k r l i ≡ touches_by k r l i
-touches_met k (Refused n) l i = refl
-touches_met k (Accepted h) l i = refl
+touches_met k (Err n) l i = refl
+touches_met k (Ok h) l i = refl
 
 disturbs_meets : (day : ℕ) (k : State) (s : List ℕ) (i : ℕ) → meets touches day k s i ≡ disturbs day k s i
 disturbs_meets day k s i = rw (touches_met k (opened s).answer (opened s).list i) refl

@@ -1,4 +1,5 @@
 -- A continuation comes due in the tick to its instant, and in any arrival at it.
+use Rattle.std.specs.Prelude.{Some}
 use mathlib.Core.Path.{◌≡◌, refl, ap}
 use mathlib.Core.Bool.{true}
 use mathlib.Core.List.{List, [], ◌∷◌, ◌++◌}
@@ -6,7 +7,6 @@ use Prim.Native.Nat.{ℕ, suc, ◌+◌, ◌<◌}
 use native.Mathlib.Omega.{arith}
 use borrow.Author.Tests.{eq-eqb}
 use Rattle.calendar.specs.declared.Instant.{Instant}
-use Rattle.calendar.specs.declared.Moment.TheVariants.{At}
 use Rattle.facts.proofs.Bools.{by_bool}
 use Rattle.schedule.specs.Alarms.{pending, falls}
 use Rattle.schedule.specs.Coming.{next_of}
@@ -30,7 +30,7 @@ use Rattle.machine.proofs.Untouched.{still_declared}
 use Rattle.machine.proofs.Undisturbed.{stays_over_lists}
 
 -- What pends at x falls on x.
-pub next_falls : (a : Alarm) (x : Instant) → next_of a ≡ At x → falls x a ≡ true
+pub next_falls : (a : Alarm) (x : Instant) → next_of a ≡ Some x → falls x a ≡ true
 next_falls a x e =
     by_bool (pending a.plan)
     (λ p. let q : a.next ≡ x = let z = rw p at e in cc in rw (p, q) (eq-eqb x.0 x.0 refl))

@@ -1,4 +1,5 @@
 -- What touches no schedule leaves it as it is, and it comes due in any arrival at its next due.
+use Rattle.std.specs.Prelude.{None, Option, Some}
 use mathlib.Core.Path.{◌≡◌, refl, sym, ap, subst, ◌∙◌}
 use mathlib.Core.Bool.{true, false, ◌&&◌, ◌||◌, and-true}
 use mathlib.Core.List.{List}
@@ -20,8 +21,6 @@ use Rattle.schedule.specs.declared.Schedule.{Schedule}
 use Rattle.task.specs.State.{wait_for}
 use Rattle.task.specs.Continuations.{continue_at, called_by}
 use Rattle.task.specs.Turns.{unmarked, end_if, suspend_turn, go_on_turn, delay_turn, delay_ends, wake, fall_turn, tick_turn, start_turn, trigger_turn}
-use Rattle.task.specs.declared.Kept.{Kept}
-use Rattle.task.specs.declared.Kept.TheVariants.{Empty, Back}
 use Rattle.task.specs.declared.Task.{Task}
 use Rattle.machine.specs.declared.State.{State}
 use Rattle.machine.specs.State.{task_at, enabled_at}
@@ -57,10 +56,10 @@ unscheduled k c i e =
 
 -- ---- one task's turn
 
-end_schedule : (k : Kept) (t : Task) → (end_if k t).task.schedule ≡ t.schedule
+end_schedule : (k : Option ℕ) (t : Task) → (end_if k t).task.schedule ≡ t.schedule
 unfolding end_if
-end_schedule Empty t = refl
-end_schedule (Back p) t = refl
+end_schedule None t = refl
+end_schedule (Some p) t = refl
 
 wake_schedule : (n : Instant) (t : Task) → (wake n t).schedule ≡ t.schedule
 unfolding wake

@@ -1,4 +1,5 @@
 -- What some turns leave of a task: a step leaves it that has none of the others, and so does a list of such records.
+use Rattle.std.specs.Prelude.{Err, None, Ok, Some}
 use mathlib.Core.Path.{◌≡◌, refl, sym, ap, subst, ◌∙◌}
 use mathlib.Core.Bool.{Bool, true, false, not, ◌&&◌}
 use mathlib.Core.List.{List, [], ◌∷◌}
@@ -13,9 +14,7 @@ use Rattle.layout.specs.declared.Call.{Call}
 use Rattle.layout.specs.declared.Mark.{Mark}
 use Rattle.layout.specs.declared.Mark.TheVariants.{TG}
 use Rattle.record.specs.Refusals.{named}
-use Rattle.record.specs.Reading.{call_with, opened}
-use Rattle.record.specs.declared.Read.{Read}
-use Rattle.record.specs.declared.Read.TheVariants.{Refused, Accepted}
+use Rattle.record.specs.Reading.{call_with, opened, Read}
 use Rattle.lock.specs.declared.Locks.{Locks}
 use Rattle.lock.specs.declared.Wait.{Wait}
 use Rattle.facts.proofs.Bools.{by_bool, by_eq, contra, both}
@@ -25,13 +24,11 @@ use Rattle.task.specs.declared.Task.{Task}
 use Rattle.task.specs.declared.Turn.{Turn}
 use Rattle.machine.specs.declared.Change.{Change}
 use Rattle.machine.specs.declared.State.{State}
-use Rattle.machine.specs.declared.Running.{Running}
-use Rattle.machine.specs.declared.Running.TheVariants.{Idle, Runs}
+use Rattle.machine.specs.Running.{Running, runner, someone}
 use Rattle.machine.specs.declared.Stepped.{Stepped}
 use Rattle.machine.specs.declared.Sort.{Sort}
 use Rattle.machine.specs.declared.Sort.TheVariants.{Declaration, OneTask, TheRunner, ListAsked, ListGiven, AnInterrupt, EveryTask}
 use Rattle.machine.specs.State.{task_at, enabled_at, fresh_task}
-use Rattle.machine.specs.Running.{runner, someone}
 use Rattle.machine.specs.Granting.{could_be_granted}
 use Rattle.machine.specs.Sorts.{sort_of, runner_at}
 use Rattle.machine.specs.Work.{by_turn, changed, only_enabled, every_turn}
@@ -58,7 +55,7 @@ still_declared day k i l s =
 pub record Left (R : Task → Task → Type 0) (day : ℕ) (k : State) (c : Call) (i : ℕ) : Type 0 where
   pub named : sort_of c.head.mark ≡ OneTask → c.head.number ≡ i
       → R (task_at k.tasks i) (named_turn day k.clock k.now c.head.mark c.head (task_at k.tasks i)).task
-  pub runs : runner k ≡ Runs i
+  pub runs : runner k ≡ Some i
       → R (task_at k.tasks i) (runner_turn day k.clock k.now c.head.mark c.head (task_at k.tasks i)).task
   pub triggered : is c.head.mark TG ≡ true → enabled_at k c.head.number ≡ true
       → R (task_at k.tasks i) (trigger_turn day k.clock k.now c.head.number (task_at k.tasks i)).task
@@ -116,8 +113,8 @@ module _ (R : Task → Task → Type 0) (next : (t u v : Task) → R t u → R u
       where
         go : (r : Running) → runner k ≡ r → someone r ≡ true
             → Same (changed k (runner_at r) (by_turn k.locks (runner_turn day k.clock k.now m c.head (task_at k.tasks (runner_at r))))).tasks
-        go Idle e z = contra z refl
-        go (Runs j) e z = one_same j _ (λ y. rw y (u.runs (rw y at e)))
+        go None e z = contra z refl
+        go (Some j) e z = one_same j _ (λ y. rw y (u.runs (rw y at e)))
 
     list_work : (w : Wait) (b : Bool) → Same (work_by day (ListAsked w b) k c).tasks
     unfolding work_by change_of
@@ -188,8 +185,8 @@ module _ (R : Task → Task → Type 0) (next : (t u v : Task) → R t u → R u
       -- So are bytes.
       opened_stays : valid day k ≡ true → (r : Read) (ls : List ℕ) (z : Stepped) → z ≡ step_opened day k r ls
           → (eqb z.answer.number 0 && met_by touch k r ls i) ≡ false → Stays z.state
-      opened_stays v (Refused n) ls z q e = rw q (unfold answered in own (task_at k.tasks i))
-      opened_stays v (Accepted h) ls z q e =
+      opened_stays v (Err n) ls z q e = rw q (unfold answered in own (task_at k.tasks i))
+      opened_stays v (Ok h) ls z q e =
           let c = call_with h ls in
           let o = q ∙ carried_by day k c in
           rw o (read_stays v c (rw o at e))

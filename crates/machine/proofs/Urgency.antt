@@ -1,4 +1,5 @@
 -- The scan for the most urgent finds the first that passes, and looks at no other numbers.
+use Rattle.std.specs.Prelude.{None, Some}
 use mathlib.Core.Path.{◌≡◌, refl}
 use mathlib.Core.Bool.{Bool, true}
 use mathlib.Core.List.{List}
@@ -9,19 +10,17 @@ use Rattle.facts.proofs.Bools.{by_bool}
 use Rattle.task.specs.State.{runnable}
 use Rattle.task.specs.declared.Task.{Task}
 use Rattle.machine.specs.declared.State.{State}
-use Rattle.machine.specs.declared.Running.{Running}
-use Rattle.machine.specs.declared.Running.TheVariants.{Idle, Runs}
+use Rattle.machine.specs.Running.{Running, urgency, better, most_urgent, running_of, runner}
 use Rattle.machine.proofs.Below.{Found, scan_finds}
 use Rattle.machine.specs.State.{task_at}
-use Rattle.machine.specs.Running.{urgency, better, most_urgent, running_of, runner}
 use Rattle.machine.specs.Granting.{servable}
 use Rattle.machine.specs.Promises.{Chosen, AreBytes, ScanFindsFirst, RunnerIsFirst, NextServedIsFirst}
 
 -- The number orders by priority, then by place.
 first_of_found : (n : ℕ) (test : ℕ → Bool) (ps : List ℕ) (ts : List Task) → AreBytes n ps → (r : Running) → Found n test (urgency ps ts) r → Chosen n test ps ts r
 unfolding urgency
-first_of_found n test ps ts h Idle f = f
-first_of_found n test ps ts h (Runs i) f =
+first_of_found n test ps ts h None f = f
+first_of_found n test ps ts h (Some i) f =
     record {
       below = f.0;
       passes = f.1;
@@ -41,22 +40,22 @@ next_served_first n ps p h = scan_first n (servable n p.tasks p.locks) ps p.task
 
 -- What is found is below n.
 abbrev pub Below : ℕ → Running → Type 0
-Below n Idle = Unit {0}
-Below n (Runs i) = i < n
+Below n None = Unit {0}
+Below n (Some i) = i < n
 
 pub runner_below : (k : State) → Below k.counts.tasks (runner k)
 unfolding running_of
 runner_below k = below (runner k) (scan_finds k.counts.tasks (λ i. runnable (task_at k.tasks i)) (urgency k.places k.tasks))
   where
     below : (r : Running) → Found k.counts.tasks (λ i. runnable (task_at k.tasks i)) (urgency k.places k.tasks) r → Below k.counts.tasks r
-    below Idle f = tt
-    below (Runs i) f = f.0
+    below None f = tt
+    below (Some i) f = f.0
 
 -- The scan looks only at numbers below n.
 better_same : (n : ℕ) (test : ℕ → Bool) (u u' : ℕ → ℕ) → ((i : ℕ) → i < suc n → u i ≡ u' i) → (r : Running) → Found n test u r
     → better u r n ≡ better u' r n
-better_same n test u u' g Idle f = refl
-better_same n test u u' g (Runs i) f = rw (g n (omega arith), g i (omega (arith, f.0)))
+better_same n test u u' g None f = refl
+better_same n test u u' g (Some i) f = rw (g n (omega arith), g i (omega (arith, f.0)))
 
 pub scan_same : (n : ℕ) (test test' : ℕ → Bool) (u u' : ℕ → ℕ) → ((i : ℕ) → i < n → test i ≡ test' i) → ((i : ℕ) → i < n → u i ≡ u' i)
     → most_urgent n test u ≡ most_urgent n test' u'
@@ -77,8 +76,8 @@ scan_alike (suc n) test u v h =
     by_bool (test n) (λ e. rw (e, ← ih) (held e (most_urgent n test u) (scan_finds n test u))) (λ e. rw (e, ih))
   where
     held : test n ≡ true → (r : Running) → Found n test u r → better u r n ≡ better v r n
-    held e Idle f = refl
-    held e (Runs i) f = rw (h i n f.0 (omega arith) f.1 e)
+    held e None f = refl
+    held e (Some i) f = rw (h i n f.0 (omega arith) f.1 e)
 
 -- So it is the same where those that pass are as urgent as they were.
 pub scan_passing : (n : ℕ) (test : ℕ → Bool) (u v : ℕ → ℕ) → ((i : ℕ) → i < n → test i ≡ true → u i ≡ v i) → most_urgent n test u ≡ most_urgent n test v

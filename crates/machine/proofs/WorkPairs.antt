@@ -1,4 +1,5 @@
 -- The works of a call on two kernels that agree are alike in what is declared.
+use Rattle.std.specs.Prelude.{None, Some}
 use mathlib.Core.Path.{◌≡◌, refl, sym, ap, ◌∙◌}
 use mathlib.Core.Bool.{Bool, true, false, not, ◌||◌}
 use mathlib.Core.List.{List, ◌++◌, map}
@@ -29,12 +30,10 @@ use Rattle.task.specs.declared.Turn.{Turn}
 use Rattle.task.proofs.Waits.{NoNewWait, no_wait_due, no_wait_end, no_wait_suspend, no_wait_prevent, no_wait_continue, no_wait_resume, no_wait_later, no_wait_rest, no_wait_schedule, no_wait_tick, no_wait_trigger}
 use Rattle.machine.specs.declared.Counts.{Counts}
 use Rattle.machine.specs.declared.State.{State}
-use Rattle.machine.specs.declared.Running.{Running}
+use Rattle.machine.specs.Running.{Running, runner, someone}
 use Rattle.machine.specs.declared.Sort.{Sort}
 use Rattle.machine.specs.declared.Sort.TheVariants.{Declaration, OneTask, TheRunner, ListAsked, ListGiven, AnInterrupt, EveryTask}
-use Rattle.machine.specs.declared.Running.TheVariants.{Idle, Runs}
 use Rattle.machine.specs.State.{most_tasks, most_semaphores, most_bolts, most_interrupts, task_at, place_at, enabled_at, with_state, with_places}
-use Rattle.machine.specs.Running.{runner, someone}
 use Rattle.machine.specs.Granting.{could_be_granted}
 use Rattle.machine.specs.Sets.{only}
 use Rattle.machine.specs.Sorts.{needs_runner, runner_at}
@@ -225,8 +224,8 @@ module _ (k : State) (ts : List Task) (ps : List ℕ) (r : Locks) (is : List Boo
   runner_pair g q = rw (← same_runner) (go (runner k) (runner_below k))
     where
       go : (x : Running) → Below n.tasks x → someone x ≡ true → WorkPair n (g k (runner_at x)) (g k' (runner_at x))
-      go Idle l e = contra e refl
-      go (Runs i) l e = q i l
+      go None l e = contra e refl
+      go (Some i) l e = q i l
 
   pub work_pair : (day : ℕ) (c : Call) (s : Sort) → declared_by s n c ≡ true → (not (needs_runner s) || someone (runner k)) ≡ true
       → WorkPair n (work_by day s k c) (work_by day s k' c)

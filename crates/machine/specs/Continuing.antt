@@ -1,20 +1,17 @@
 -- Continuations: what CONTINUE, RESUME and TRIGGER make of them, when they come due, and that nothing else touches them
 -- (request 1). Proved in proofs/Accepted.antt, proofs/Continuing.antt, proofs/Undisturbed.antt, proofs/Arriving.antt and
 -- proofs/Unholding.antt.
-use Rattle.std.specs.Prelude.{◌≡◌, ◌≢◌, ◌⊎◌, Bool, true, false, not, ◌&&◌, ◌||◌, List, [], ◌∷◌, ◌++◌, ℕ, suc, ◌+◌, ◌<◌, ◌≤◌, length, eqb}
+use Rattle.std.specs.Prelude.{Err, None, Ok, Some, ◌≡◌, ◌≢◌, ◌⊎◌, Bool, true, false, not, ◌&&◌, ◌||◌, List, [], ◌∷◌, ◌++◌, ℕ, suc, ◌+◌, ◌<◌, ◌≤◌, length, eqb}
 use Rattle.calendar.specs.Limits.{last_instant}
 use Rattle.calendar.specs.Times.{duration}
 use Rattle.calendar.specs.Dues.{first_due}
 use Rattle.calendar.specs.declared.Instant.{Instant}
-use Rattle.calendar.specs.declared.Moment.TheVariants.{At}
 use Rattle.layout.specs.Marks.{is}
 use Rattle.layout.specs.declared.Call.{Call}
 use Rattle.layout.specs.declared.Head.{Head}
 use Rattle.layout.specs.declared.Mark.TheVariants.{PR, CO, RE, TG, TI, SL}
 use Rattle.record.specs.Refusals.{scheduled, on_interrupt}
-use Rattle.record.specs.Reading.{accepted, call_with, opened}
-use Rattle.record.specs.declared.Read.{Read}
-use Rattle.record.specs.declared.Read.TheVariants.{Refused, Accepted}
+use Rattle.record.specs.Reading.{accepted, call_with, opened, Read}
 use Rattle.lock.specs.declared.Wait.{Wait}
 use Rattle.schedule.specs.Alarms.{set_for, armed, start_of, falls, listens}
 use Rattle.schedule.specs.Coming.{next_of}
@@ -23,10 +20,8 @@ use Rattle.task.specs.Continuing.{Has, HasNone, SameContinuation, SameHold, Goes
 use Rattle.task.specs.declared.Hold.TheVariants.{Unheld, Suspended}
 use Rattle.task.specs.declared.Task.{Task}
 use Rattle.machine.specs.declared.State.{State}
-use Rattle.machine.specs.declared.Running.{Running}
-use Rattle.machine.specs.declared.Running.TheVariants.{Idle, Runs}
+use Rattle.machine.specs.Running.{Running, runner}
 use Rattle.machine.specs.State.{most_tasks, task_at, enabled_at}
-use Rattle.machine.specs.Running.{runner}
 use Rattle.machine.specs.Serving.{Served, serve}
 use Rattle.machine.specs.Test.{valid, kernel_refusal}
 use Rattle.machine.specs.Calls.{arrival}
@@ -95,7 +90,7 @@ pub record CallsMake : Type 0 where
       → c.head.mark ≡ CO → scheduled c.head.kind ≡ true
       → Continues day k c.head (task_at k.tasks c.head.number) (task_after day k s c.head.number)
   pub resume : (day : ℕ) (k : State) (s : List ℕ) (c : Call) (i : ℕ) → Accepts day k s c
-      → c.head.mark ≡ RE → scheduled c.head.kind ≡ true → runner k ≡ Runs i
+      → c.head.mark ≡ RE → scheduled c.head.kind ≡ true → runner k ≡ Some i
       → Rests day k c.head (task_at k.tasks i) (task_after day k s i)
   -- PREVENT removes it and unholds nobody
   pub prevent : (day : ℕ) (k : State) (s : List ℕ) (c : Call) → Accepts day k s c → c.head.mark ≡ PR
@@ -111,8 +106,8 @@ pub record CallsMake : Type 0 where
 
 -- Task i runs.
 abbrev pub is_runner : Running → ℕ → Bool
-is_runner Idle i = false
-is_runner (Runs j) i = eqb j i
+is_runner None i = false
+is_runner (Some j) i = eqb j i
 
 -- An accepted call that touches the continuation of task i: CONTINUE on a schedule or PREVENT that names it, RESUME on a
 -- schedule while it runs, TRIGGER of its enabled interrupt, or the tick or sleep to its instant.
@@ -129,8 +124,8 @@ touches k c i =
 
 -- What was opened is such a call.
 abbrev pub touches_by : State → Read → List ℕ → ℕ → Bool
-touches_by k (Refused n) l i = false
-touches_by k (Accepted h) l i = touches k (call_with h l) i
+touches_by k (Err n) l i = false
+touches_by k (Ok h) l i = touches k (call_with h l) i
 
 -- Bytes disturb it if they open to such a call and are accepted.
 abbrev pub disturbs : ℕ → State → List ℕ → ℕ → Bool
@@ -164,7 +159,7 @@ pub record Due (day : ℕ) (k : State) (i : ℕ) (x : Instant) : Type 0 where
 abbrev pub DueInTime : Type 0
 DueInTime =
     (day : ℕ) (k : State) (i : ℕ) (x : Instant) → length k.tasks ≡ most_tasks → kernel_refusal day k ≡ 0
-    → i < k.counts.tasks → next_of (task_at k.tasks i).continuation ≡ At x
+    → i < k.counts.tasks → next_of (task_at k.tasks i).continuation ≡ Some x
     → k.now.0 + 1 ≡ x.0 → x.0 ≤ last_instant
     → Due day k i x
 
@@ -179,7 +174,7 @@ pub record DueAfter (day d : ℕ) (k : State) (i : ℕ) (x : Instant) : Type 0 w
 abbrev pub DueAfterTicks : Type 0
 DueAfterTicks =
     (day d : ℕ) (k : State) (i : ℕ) (x : Instant) → length k.tasks ≡ most_tasks → kernel_refusal day k ≡ 0
-    → i < k.counts.tasks → next_of (task_at k.tasks i).continuation ≡ At x
+    → i < k.counts.tasks → next_of (task_at k.tasks i).continuation ≡ Some x
     → Quiet d k → k.now.0 + d + 1 ≡ x.0 → x.0 ≤ last_instant
     → DueAfter day d k i x
 
@@ -188,7 +183,7 @@ DueAfterTicks =
 abbrev pub PromiseKept : Type 0
 PromiseKept =
     (day : ℕ) → IsDay day → (k : State) → Passes day k → (rs : List (List ℕ)) → AllOctets rs
-    → (i : ℕ) (x : Instant) → i < k.counts.tasks → next_of (task_at k.tasks i).continuation ≡ At x
+    → (i : ℕ) (x : Instant) → i < k.counts.tasks → next_of (task_at k.tasks i).continuation ≡ Some x
     → undisturbed day i k rs ≡ true
     → let z = final day k rs in z.now.0 + 1 ≡ x.0 → x.0 ≤ last_instant
     → SameContinuation (task_at k.tasks i) (task_at z.tasks i) × Due day z i x
@@ -201,8 +196,8 @@ Touch = State → Call → ℕ → Bool
 
 -- What was opened is such a call.
 abbrev pub met_by : Touch → State → Read → List ℕ → ℕ → Bool
-met_by touch k (Refused n) l i = false
-met_by touch k (Accepted h) l i = touch k (call_with h l) i
+met_by touch k (Err n) l i = false
+met_by touch k (Ok h) l i = touch k (call_with h l) i
 
 -- Bytes meet a test if they open to such a call and are accepted.
 abbrev pub meets : Touch → ℕ → State → List ℕ → ℕ → Bool
@@ -232,7 +227,7 @@ TickArrives =
 abbrev pub SleepArrives : Type 0
 SleepArrives =
     (day : ℕ) (k : State) (x : Instant) → length k.tasks ≡ most_tasks → kernel_refusal day k ≡ 0
-    → k.file.next ≡ At x → x.0 ≤ last_instant → Arrives day k sleep x
+    → k.file.next ≡ Some x → x.0 ≤ last_instant → Arrives day k sleep x
 
 -- The arrival s at x: accepted, and the continuation of task i comes due.
 pub record DueOn (day : ℕ) (k : State) (s : List ℕ) (i : ℕ) (x : Instant) : Type 0 where
@@ -243,7 +238,7 @@ pub record DueOn (day : ℕ) (k : State) (s : List ℕ) (i : ℕ) (x : Instant) 
 abbrev pub DueOnArrival : Type 0
 DueOnArrival =
     (day : ℕ) (k : State) (s : List ℕ) (i : ℕ) (x : Instant) → i < k.counts.tasks
-    → next_of (task_at k.tasks i).continuation ≡ At x → Arrives day k s x
+    → next_of (task_at k.tasks i).continuation ≡ Some x → Arrives day k s x
     → DueOn day k s i x
 
 -- The promise for any kernel: a continuation that pends at x and that no record of a list disturbs comes due in any arrival
@@ -251,6 +246,6 @@ DueOnArrival =
 abbrev pub PromiseOnArrival : Type 0
 PromiseOnArrival =
     (day : ℕ) (k : State) (rs : List (List ℕ)) (i : ℕ) (x : Instant) → i < k.counts.tasks
-    → next_of (task_at k.tasks i).continuation ≡ At x → undisturbed day i k rs ≡ true
+    → next_of (task_at k.tasks i).continuation ≡ Some x → undisturbed day i k rs ≡ true
     → let z = final day k rs in (s : List ℕ) → Arrives day z s x
     → SameContinuation (task_at k.tasks i) (task_at z.tasks i) × DueOn day z s i x

@@ -1,8 +1,7 @@
 -- When each of the numbers 5, 7 to 15 and 17 is given: the sentences of document 01, "Refusals, in checking order", mark by
 -- mark and with its figures. Proved in proofs/Grounds.antt and proofs/Numbers.antt.
-use Rattle.std.specs.Prelude.{◌≡◌, ◌≢◌, ◌⊎◌, ◌↔◌, true, false, ◌&&◌, List, ℕ, ◌≤◌, ◌<◌}
+use Rattle.std.specs.Prelude.{None, Some, ◌≡◌, ◌≢◌, ◌⊎◌, ◌↔◌, true, false, ◌&&◌, List, ℕ, ◌≤◌, ◌<◌}
 use Rattle.calendar.specs.declared.Instant.{Instant}
-use Rattle.calendar.specs.declared.Moment.TheVariants.{Never, At}
 use Rattle.lists.specs.Lists.{names}
 use Rattle.layout.specs.declared.Call.{Call}
 use Rattle.layout.specs.declared.Mark.{Mark}
@@ -14,7 +13,6 @@ use Rattle.task.specs.declared.Hold.TheVariants.{Unheld, Suspended, Delayed}
 use Rattle.task.specs.declared.Task.{Task}
 use Rattle.machine.specs.declared.Counts.{Counts}
 use Rattle.machine.specs.declared.State.{State}
-use Rattle.machine.specs.declared.Running.TheVariants.{Idle, Runs}
 use Rattle.machine.specs.State.{task_at}
 use Rattle.machine.specs.Running.{runner}
 use Rattle.machine.specs.NextEvent.{next_event}
@@ -97,22 +95,22 @@ its_task k c = task_at k.tasks c.head.number
 
 -- The ground of a number for a call c with a mark, in kernel k. Each leaves out those of the numbers before it.
 pub data Ground (k : State) (c : Call) : Mark → ℕ → Type 0 where
-  nobody_runs : (m : Mark) → OfRunner m → runner k ≡ Idle → Ground k c m 8
+  nobody_runs : (m : Mark) → OfRunner m → runner k ≡ None → Ground k c m 8
   activate_alive : c.head.kind ≡ 0 → (its_task k c).alive ≡ true → Ground k c AC 9
   terminate_terminated : (its_task k c).alive ≡ false → Ground k c TE 10
   suspend_terminated : (its_task k c).alive ≡ false → Ground k c SU 10
   continue_terminated : c.head.kind ≡ 0 → (its_task k c).alive ≡ false → Ground k c CO 10
   suspend_suspended : (its_task k c).alive ≡ true → (its_task k c).hold ≡ Suspended → Ground k c SU 11
   continue_unheld : c.head.kind ≡ 0 → (its_task k c).alive ≡ true → (its_task k c).hold ≡ Unheld → Ground k c CO 12
-  release_full : (i : ℕ) → runner k ≡ Runs i → (x : ℕ) → names (named c) x ≡ true → value_at k.locks x ≡ 65535
+  release_full : (i : ℕ) → runner k ≡ Some i → (x : ℕ) → names (named c) x ≡ true → value_at k.locks x ≡ 65535
       → Ground k c RL 13
-  free_unwritten : (i : ℕ) → runner k ≡ Runs i → (x : ℕ) → names (named c) x ≡ true → (bolt_at k.locks x).writer ≡ false
+  free_unwritten : (i : ℕ) → runner k ≡ Some i → (x : ℕ) → names (named c) x ≡ true → (bolt_at k.locks x).writer ≡ false
       → Ground k c FR 14
-  leave_unread : (i : ℕ) → runner k ≡ Runs i → (x : ℕ) → names (named c) x ≡ true → (bolt_at k.locks x).readers ≡ 0
+  leave_unread : (i : ℕ) → runner k ≡ Some i → (x : ℕ) → names (named c) x ≡ true → (bolt_at k.locks x).readers ≡ 0
       → Ground k c LV 14
   tick_at_last : k.now.0 ≡ 1099511627776 → Ground k c TI 15
-  sleep_for_nothing : next_event k ≡ Never → Ground k c SL 17
-  sleep_too_far : (n : Instant) → next_event k ≡ At n → 1099511627776 < n.0 → Ground k c SL 17
+  sleep_for_nothing : next_event k ≡ None → Ground k c SL 17
+  sleep_too_far : (n : Instant) → next_event k ≡ Some n → 1099511627776 < n.0 → Ground k c SL 17
 
 -- ---- the step
 

@@ -1,22 +1,20 @@
 -- What a kernel holds, and what refusal 1 asks of it: one claim for each sentence of document 01, with its figures. Places
 -- beyond the counts aren't looked at. Proved in proofs/Limits.antt.
-use Rattle.std.specs.Prelude.{◌≡◌, ◌≢◌, ◌⊎◌, true, false, List, ℕ, ◌≤◌, ◌<◌, ◌^◌, length, get_or}
+use Rattle.std.specs.Prelude.{None, Some, ◌≡◌, ◌≢◌, ◌⊎◌, true, false, List, ℕ, ◌≤◌, ◌<◌, ◌^◌, length, get_or}
 use Rattle.calendar.specs.Limits.{day_length}
 use Rattle.calendar.specs.declared.Instant.{Instant}
 use Rattle.calendar.specs.declared.Duration.{Duration}
 use Rattle.calendar.specs.declared.End.TheVariants.{Until, During}
-use Rattle.calendar.specs.declared.Moment.TheVariants.{At}
 use Rattle.lock.specs.Locks.{value_at, bolt_at}
 use Rattle.lock.specs.declared.Wait.TheVariants.{Nothing, Request, Reserve, Enter}
-use Rattle.schedule.specs.declared.Plan.TheVariants.{None, Clock, Armed, Triggered}
+use Rattle.schedule.specs.declared.Plan.{Plan}
+use Rattle.schedule.specs.declared.Plan.TheVariants.{Clock, Armed, Triggered}
 use Rattle.schedule.specs.declared.Alarm.{Alarm}
 use Rattle.schedule.specs.declared.Schedule.{Schedule}
 use Rattle.task.specs.State.{wanted}
 use Rattle.task.specs.declared.Hold.TheVariants.{Unheld, Delayed}
-use Rattle.task.specs.declared.Kept.TheVariants.{Empty, Back}
 use Rattle.task.specs.declared.Task.{Task}
 use Rattle.machine.specs.declared.Counts.{Counts}
-use Rattle.machine.specs.declared.Running.TheVariants.{Idle}
 use Rattle.machine.specs.declared.State.{State}
 use Rattle.machine.specs.Sets.{no_sets}
 use Rattle.machine.specs.State.{task_at, place_at}
@@ -52,7 +50,7 @@ pub record ScheduleLimits (ni : ℕ) (s : Schedule) : Type 0 where
   pub until : (t : ℕ) → s.end ≡ Until t → t ≤ 86399999
   pub during : (d : Duration) → s.end ≡ During d → (1 ≤ d.0) × (d.0 ≤ 1000000000)
   -- while one is to come, the last allowed is at most at 2^42
-  pub last : (n : Instant) → s.last ≡ At n → (s.alarm.plan ≡ Clock) ⊎ (s.alarm.plan ≡ Triggered) → n.0 ≤ 2 ^ 42
+  pub last : (n : Instant) → s.last ≡ Some n → (s.alarm.plan ≡ Clock) ⊎ (s.alarm.plan ≡ Triggered) → n.0 ≤ 2 ^ 42
 
 -- A continuation that there is, and the priority that it gives, or 0.
 pub record ContinuationLimits (ni : ℕ) (a : Alarm) (p : ℕ) : Type 0 where
@@ -63,7 +61,7 @@ pub record ContinuationLimits (ni : ℕ) (a : Alarm) (p : ℕ) : Type 0 where
 pub record AtRest (t : Task) : Type 0 where
   pub wait : t.wait ≡ Nothing
   pub hold : t.hold ≡ Unheld
-  pub kept : t.kept ≡ Empty
+  pub kept : t.kept ≡ None
 
 pub record TaskLimits (n : Counts) (t : Task) : Type 0 where
   pub declared : (1 ≤ t.declared) × (t.declared ≤ 255)
@@ -73,9 +71,9 @@ pub record TaskLimits (n : Counts) (t : Task) : Type 0 where
   pub reserve : t.wait ≡ Reserve → ListLimits n.bolts t.len (wanted t)
   pub enter : t.wait ≡ Enter → ListLimits n.bolts t.len (wanted t)
   pub delayed : (m : Instant) → t.hold ≡ Delayed m → m.0 ≤ 2 ^ 42
-  pub kept : (p : ℕ) → t.kept ≡ Back p → (1 ≤ p) × (p ≤ 255)
-  pub schedule : t.schedule.alarm.plan ≢ None → ScheduleLimits n.interrupts t.schedule
-  pub continuation : t.continuation.plan ≢ None → ContinuationLimits n.interrupts t.continuation t.given
+  pub kept : (p : ℕ) → t.kept ≡ Some p → (1 ≤ p) × (p ≤ 255)
+  pub schedule : t.schedule.alarm.plan ≢ Plan.None → ScheduleLimits n.interrupts t.schedule
+  pub continuation : t.continuation.plan ≢ Plan.None → ContinuationLimits n.interrupts t.continuation t.given
 
 -- ---- the kernel
 
@@ -110,4 +108,4 @@ abbrev pub OutsideIsRefused : Type 0
 OutsideIsRefused =
     (k : State) (s : List ℕ) → ¬ (Limits k)
     → step day_length k s
-    ≡ record { state = k; answer = record { number = 1; running = Idle; sets = no_sets } }
+    ≡ record { state = k; answer = record { number = 1; running = None; sets = no_sets } }

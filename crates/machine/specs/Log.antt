@@ -1,8 +1,7 @@
 -- What a list of records leaves: the last kernel, and the log of records and answers.
-use Rattle.std.specs.Prelude.{List, [], ◌∷◌, Bool, false, ℕ}
+use Rattle.std.specs.Prelude.{Err, Ok, List, [], ◌∷◌, Bool, false, ℕ}
 use Rattle.layout.specs.Fields.{Octets}
-use Rattle.record.specs.declared.Read.{Read}
-use Rattle.record.specs.declared.Read.TheVariants.{Refused, Accepted}
+use Rattle.record.specs.Reading.{Read}
 use Rattle.machine.specs.declared.State.{State}
 use Rattle.machine.specs.declared.Answer.{Answer}
 use Rattle.machine.specs.Sorts.{declares}
@@ -10,8 +9,8 @@ use Rattle.machine.specs.Step.{step}
 
 -- What was opened is a declaration.
 abbrev pub is_declaration : Read → Bool
-is_declaration (Refused n) = false
-is_declaration (Accepted h) = declares h.mark
+is_declaration (Err n) = false
+is_declaration (Ok h) = declares h.mark
 
 -- Records are lists of bytes, of any length.
 unfoldable pub AllOctets : List (List ℕ) → Type 0

@@ -1,5 +1,5 @@
 -- What single calls and declarations leave (document 01, "Records" and "The step"). Proved in proofs/Making.antt.
-use Rattle.std.specs.Prelude.{◌≡◌, ◌≢◌, ◌⊎◌, Bool, true, false, List, ℕ, ◌+◌, ◌<◌}
+use Rattle.std.specs.Prelude.{None, Some, ◌≡◌, ◌≢◌, ◌⊎◌, Bool, true, false, List, ℕ, ◌+◌, ◌<◌}
 use Rattle.calendar.specs.Times.{instant}
 use Rattle.calendar.specs.declared.Instant.{Instant}
 use Rattle.layout.specs.declared.Call.{Call}
@@ -11,10 +11,8 @@ use Rattle.schedule.specs.Schedules.{no_schedule}
 use Rattle.task.specs.Turns.{delay_ends}
 use Rattle.task.specs.Continuing.{HasNone, SameContinuation}
 use Rattle.task.specs.declared.Hold.TheVariants.{Unheld, Suspended, Delayed}
-use Rattle.task.specs.declared.Kept.TheVariants.{Empty, Back}
 use Rattle.task.specs.declared.Task.{Task}
 use Rattle.machine.specs.declared.State.{State}
-use Rattle.machine.specs.declared.Running.TheVariants.{Runs}
 use Rattle.machine.specs.State.{task_at, place_at, enabled_at, begun_at}
 use Rattle.machine.specs.Running.{runner}
 use Rattle.machine.specs.Sorts.{declares}
@@ -29,7 +27,7 @@ pub record Clear (lives : Bool) (u : Task) : Type 0 where
   pub alive : u.alive ≡ lives
   pub hold : u.hold ≡ Unheld
   pub wait : u.wait ≡ Nothing
-  pub kept : u.kept ≡ Empty
+  pub kept : u.kept ≡ None
 
 -- Schedule and continuation stay.
 pub record SamePlans (t u : Task) : Type 0 where
@@ -45,9 +43,9 @@ pub record LivesOn (t u : Task) : Type 0 where
 -- TERMINATE, and the end of the running task.
 pub record TaskEnds (t u : Task) : Type 0 where
   pub plans : SamePlans t u
-  pub ended : t.kept ≡ Empty → Clear false u × (u.current ≡ t.declared)
+  pub ended : t.kept ≡ None → Clear false u × (u.current ≡ t.declared)
   -- a start kept back starts
-  pub again : (p : ℕ) → t.kept ≡ Back p → Clear true u × (u.current ≡ p)
+  pub again : (p : ℕ) → t.kept ≡ Some p → Clear true u × (u.current ≡ p)
 
 -- SUSPEND.
 pub record Suspends (t u : Task) : Type 0 where
@@ -83,14 +81,14 @@ pub record CallsLeave : Type 0 where
       (t.alive ≡ false) × Clear true u × SamePlans t u
   pub terminate : (day : ℕ) (k : State) (s : List ℕ) (c : Call) → Accepts day k s c → c.head.mark ≡ TE
       → TaskEnds (task_at k.tasks c.head.number) (task_after day k s c.head.number)
-  pub end : (day : ℕ) (k : State) (s : List ℕ) (c : Call) (i : ℕ) → Accepts day k s c → c.head.mark ≡ EN → runner k ≡ Runs i
+  pub end : (day : ℕ) (k : State) (s : List ℕ) (c : Call) (i : ℕ) → Accepts day k s c → c.head.mark ≡ EN → runner k ≡ Some i
       → TaskEnds (task_at k.tasks i) (task_after day k s i)
   pub suspend : (day : ℕ) (k : State) (s : List ℕ) (c : Call) → Accepts day k s c → c.head.mark ≡ SU
       → Suspends (task_at k.tasks c.head.number) (task_after day k s c.head.number)
   pub continue : (day : ℕ) (k : State) (s : List ℕ) (c : Call) → Accepts day k s c → c.head.mark ≡ CO → c.head.kind ≡ 0
       → Unholds c.head.priority (task_at k.tasks c.head.number) (task_after day k s c.head.number)
   pub resume : (day : ℕ) (k : State) (s : List ℕ) (c : Call) (i : ℕ) → Accepts day k s c → c.head.mark ≡ RE → c.head.kind ≡ 0
-      → runner k ≡ Runs i
+      → runner k ≡ Some i
       → Delays (instant (k.now.0 + c.head.first)) (task_at k.tasks i) (task_after day k s i)
 
 -- ---- interrupts

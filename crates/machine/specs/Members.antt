@@ -1,19 +1,16 @@
 -- Whom the sets due, started and ended of an answer have, read off the record and the kernels before and after it (document
 -- 01, "The step"). Proved in proofs/Members.antt.
-use Rattle.std.specs.Prelude.{◌≡◌, Bool, false, not, ◌&&◌, ◌||◌, List, ℕ, ◌<◌, eqb}
+use Rattle.std.specs.Prelude.{is_some, Err, Ok, ◌≡◌, Bool, false, not, ◌&&◌, ◌||◌, List, ℕ, ◌<◌, eqb}
 use Rattle.calendar.specs.Moments.{is_at}
 use Rattle.calendar.specs.declared.Instant.{Instant}
 use Rattle.layout.specs.Marks.{is}
 use Rattle.layout.specs.declared.Call.{Call}
 use Rattle.layout.specs.declared.Mark.TheVariants.{AC, TE, EN, TG, TI, SL}
 use Rattle.record.specs.Refusals.{on_interrupt}
-use Rattle.record.specs.Reading.{call_with, opened}
-use Rattle.record.specs.declared.Read.{Read}
-use Rattle.record.specs.declared.Read.TheVariants.{Refused, Accepted}
+use Rattle.record.specs.Reading.{call_with, opened, Read}
 use Rattle.lock.specs.Locks.{bit}
 use Rattle.schedule.specs.Alarms.{listens}
 use Rattle.schedule.specs.Coming.{next_of}
-use Rattle.task.specs.State.{is_kept}
 use Rattle.machine.specs.declared.Answer.{Answer}
 use Rattle.machine.specs.declared.State.{State}
 use Rattle.machine.specs.Sets.{has, holds}
@@ -47,8 +44,8 @@ comes_to_end k c i = (is c.head.mark TE && eqb c.head.number i) || (is c.head.ma
 
 -- f holds of the call that was opened.
 abbrev pub of_call : (Call → Bool) → Read → List ℕ → Bool
-of_call f (Refused n) l = false
-of_call f (Accepted h) l = f (call_with h l)
+of_call f (Err n) l = false
+of_call f (Ok h) l = f (call_with h l)
 
 -- The answer a accepts the bytes s, and f holds of their call.
 abbrev pub accepted_as : (Call → Bool) → List ℕ → Answer → Bool
@@ -58,7 +55,7 @@ accepted_as f s a = eqb a.number 0 && of_call f (opened s).answer (opened s).lis
 abbrev pub comes_to_start : State → Answer → ℕ → Bool
 comes_to_start k a i =
     (holds i a.sets.due && not (task_at k.tasks i).alive)
-    || (holds i a.sets.ended && is_kept (task_at k.tasks i).kept)
+    || (holds i a.sets.ended && is_some (task_at k.tasks i).kept)
 
 -- Where the three sets of the answer a have task i; z is the kernel after it.
 pub record Membership (day : ℕ) (k : State) (s : List ℕ) (a : Answer) (z : State) (i : ℕ) : Type 0 where

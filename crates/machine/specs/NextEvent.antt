@@ -1,8 +1,7 @@
 -- The next event: when something next comes to a declared task without another call. It is on file, with the running task.
 use Rattle.std.specs.Prelude.{List, [], ◌++◌, ℕ, zero, suc}
-use Rattle.calendar.specs.Moments.{first_after}
+use Rattle.calendar.specs.Moments.{first_after, Moment}
 use Rattle.calendar.specs.declared.Instant.{Instant}
-use Rattle.calendar.specs.declared.Moment.{Moment}
 use Rattle.task.specs.Coming.{pendings}
 use Rattle.task.specs.declared.Task.{Task}
 use Rattle.machine.specs.declared.State.{State}

@@ -1,21 +1,17 @@
 -- What the machine's definitions mean, for every kernel value and any bytes.
-use Rattle.std.specs.Prelude.{◌≡◌, ◌≢◌, Bool, true, false, not, ◌&&◌, List, map, ℕ, ◌≤◌, ◌<◌, length}
+use Rattle.std.specs.Prelude.{Err, None, Ok, Some, ◌≡◌, ◌≢◌, Bool, true, false, not, ◌&&◌, List, map, ℕ, ◌≤◌, ◌<◌, length}
 use Rattle.layout.specs.Fields.{bytes_of, most_numbers}
 use Rattle.layout.specs.declared.Call.{Call}
 use Rattle.record.specs.Refusals.{unless, first_refusal, shape}
-use Rattle.record.specs.Reading.{accepted, call_with, opened, reading}
+use Rattle.record.specs.Reading.{accepted, call_with, opened, reading, Read}
 use Rattle.record.specs.Writing.{written}
-use Rattle.record.specs.declared.Read.{Read}
-use Rattle.record.specs.declared.Read.TheVariants.{Refused, Accepted}
 use Rattle.task.specs.State.{runnable}
 use Rattle.task.specs.declared.Task.{Task}
 use Rattle.machine.specs.declared.State.{State}
-use Rattle.machine.specs.declared.Running.{Running}
-use Rattle.machine.specs.declared.Running.TheVariants.{Idle, Runs}
+use Rattle.machine.specs.Running.{Running, most_places, urgency, most_urgent, runner}
 use Rattle.machine.specs.declared.Stepped.{Stepped}
 use Rattle.machine.specs.Sets.{Set, members, no_sets}
 use Rattle.machine.specs.State.{task_at, place_at}
-use Rattle.machine.specs.Running.{most_places, urgency, most_urgent, runner}
 use Rattle.machine.specs.NextEvent.{file_of}
 use Rattle.machine.specs.Granting.{servable}
 use Rattle.machine.specs.Serving.{Served, next_served}
@@ -37,8 +33,8 @@ pub record First (n : ℕ) (test : ℕ → Bool) (ps : List ℕ) (ts : List Task
 
 -- The first of them; or none, where none passes.
 abbrev pub Chosen : ℕ → (ℕ → Bool) → List ℕ → List Task → Running → Type 0
-Chosen n test ps ts Idle = (j : ℕ) → j < n → test j ≡ false
-Chosen n test ps ts (Runs i) = First n test ps ts i
+Chosen n test ps ts None = (j : ℕ) → j < n → test j ≡ false
+Chosen n test ps ts (Some i) = First n test ps ts i
 
 -- The places of n tasks are bytes, as in every value of the code.
 abbrev pub AreBytes : ℕ → List ℕ → Type 0
@@ -92,7 +88,7 @@ abbrev pub UntestedIsRefused : Type 0
 UntestedIsRefused =
     (day : ℕ) (k : State) (s : List ℕ) → valid day k ≡ false
     → step day k s
-    ≡ record { state = k; answer = record { number = 1; running = Idle; sets = no_sets } }
+    ≡ record { state = k; answer = record { number = 1; running = None; sets = no_sets } }
 
 -- One that passes it with another task or next event on file than the rules give is refused with 16 whatever the bytes,
 -- and no task runs.
@@ -100,11 +96,11 @@ abbrev pub MisfiledIsRefused : Type 0
 MisfiledIsRefused =
     (day : ℕ) (k : State) (s : List ℕ) → valid day k ≡ true → k.file ≢ file_of k
     → step day k s
-    ≡ record { state = k; answer = record { number = 16; running = Idle; sets = no_sets } }
+    ≡ record { state = k; answer = record { number = 16; running = None; sets = no_sets } }
 
 -- A kernel turned away with 1 or 16 stays as it is over any list of records, and each of them has that answer.
 pub record TurnedAway (day n : ℕ) (k : State) (rs : List (List ℕ)) : Type 0 where
-  pub entries : log day k rs ≡ map (λ r. record { bytes = r; answer = plain_answer n Idle }) rs
+  pub entries : log day k rs ≡ map (λ r. record { bytes = r; answer = plain_answer n None }) rs
   pub state : final day k rs ≡ k
 
 abbrev pub TurnedAwayForGood : Type 0
@@ -163,15 +159,15 @@ StepOfWritten =
 -- The step's number for what the reader refuses. No record: 2. Else the first of 2 (a declaration after an accepted
 -- call), 3 or 4, 5, and 6.
 abbrev pub number_for : State → Read → List ℕ → ℕ
-number_for k (Refused n) l = 2
-number_for k (Accepted h) l =
+number_for k (Err n) l = 2
+number_for k (Ok h) l =
     unless (not (k.begun && declares h.mark)) 2
     (first_refusal (shape (call_with h l)) (unless (declared_in h.mark k.counts (call_with h l)) 5 6))
 
 -- What the reader refuses, the step refuses.
 abbrev pub RefusedByReader : Type 0
 RefusedByReader =
-    (day : ℕ) (k : State) (s : List ℕ) (n : ℕ) → kernel_refusal day k ≡ 0 → (reading day s).answer ≡ Refused n
+    (day : ℕ) (k : State) (s : List ℕ) (n : ℕ) → kernel_refusal day k ≡ 0 → (reading day s).answer ≡ Err n
     → step day k s ≡ answered k (number_for k (opened s).answer (opened s).list) (runner k)
 
 -- Where the two numbers part, for bytes that open to c.
@@ -179,13 +175,13 @@ pub record Order (day : ℕ) (k : State) (s : List ℕ) (c : Call) : Type 0 wher
   -- a declaration after an accepted call is 2, whatever the reader says
   pub late : k.begun ≡ true → declares c.head.mark ≡ true → step day k s ≡ answered k 2 (runner k)
   -- else the reader's 3 and 4 stay
-  pub shaped : (n : ℕ) → (k.begun && declares c.head.mark) ≡ false → (reading day s).answer ≡ Refused n → n ≢ 6
+  pub shaped : (n : ℕ) → (k.begun && declares c.head.mark) ≡ false → (reading day s).answer ≡ Err n → n ≢ 6
       → step day k s ≡ answered k n (runner k)
   -- its 6 is 5 where something named isn't declared
-  pub unknown : (reading day s).answer ≡ Refused 6 → declared_in c.head.mark k.counts c ≡ false
+  pub unknown : (reading day s).answer ≡ Err 6 → declared_in c.head.mark k.counts c ≡ false
       → step day k s ≡ answered k 5 (runner k)
   -- and stays where all is declared
-  pub timed : (k.begun && declares c.head.mark) ≡ false → (reading day s).answer ≡ Refused 6
+  pub timed : (k.begun && declares c.head.mark) ≡ false → (reading day s).answer ≡ Err 6
       → declared_in c.head.mark k.counts c ≡ true → step day k s ≡ answered k 6 (runner k)
 
 abbrev pub RefusalsInOrder : Type 0

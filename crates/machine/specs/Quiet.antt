@@ -1,11 +1,9 @@
 -- Quiet ticks: while nothing comes, a tick only moves the instant. Proved in proofs/NextEvent.antt and proofs/Quiet.antt.
-use Rattle.std.specs.Prelude.{◌≡◌, true, false, ℕ, zero, suc, ◌+◌, ◌<◌, ◌≤◌, length}
+use Rattle.std.specs.Prelude.{Some, ◌≡◌, true, false, ℕ, zero, suc, ◌+◌, ◌<◌, ◌≤◌, length}
 use Rattle.calendar.specs.Limits.{last_instant}
 use Rattle.calendar.specs.Times.{instant, duration, plus}
-use Rattle.calendar.specs.Moments.{earlier_than}
+use Rattle.calendar.specs.Moments.{earlier_than, Moment}
 use Rattle.calendar.specs.declared.Instant.{Instant}
-use Rattle.calendar.specs.declared.Moment.{Moment}
-use Rattle.calendar.specs.declared.Moment.TheVariants.{At}
 use Rattle.task.specs.Coming.{comes}
 use Rattle.machine.specs.declared.State.{State}
 use Rattle.machine.specs.State.{most_tasks, task_at, begun_at}
@@ -30,8 +28,8 @@ Comes n k = (i : ℕ) × (i < k.counts.tasks) × (comes n (task_at k.tasks i) �
 -- m is the next event: nothing comes before it, ever if it is none, and something at it, which is later than now.
 pub record IsNextEvent (k : State) (m : Moment) : Type 0 where
   pub quiet : (d : ℕ) → earlier_than (plus k.now (duration d)) m ≡ true → Quiet d k
-  pub later : (n : Instant) → m ≡ At n → k.now.0 < n.0
-  pub comes : (n : Instant) → m ≡ At n → Comes n k
+  pub later : (n : Instant) → m ≡ Some n → k.now.0 < n.0
+  pub comes : (n : Instant) → m ≡ Some n → Comes n k
 
 abbrev pub NextIsNext : Type 0
 NextIsNext = (k : State) → IsNextEvent k (next_event k)

@@ -1,14 +1,11 @@
 -- Refusals 2 to 15 and 17, first ground first (document 01, "Refusals, in checking order").
-use Rattle.std.specs.Prelude.{Bool, true, not, ◌&&◌, ◌||◌, List, ℕ, ltb, eqb}
+use Rattle.std.specs.Prelude.{Err, Ok, Bool, true, not, ◌&&◌, ◌||◌, List, ℕ, ltb, eqb}
 use Rattle.calendar.specs.Limits.{last_instant}
-use Rattle.calendar.specs.Moments.{comes_by}
+use Rattle.calendar.specs.Moments.{comes_by, Moment}
 use Rattle.calendar.specs.declared.Instant.{Instant}
-use Rattle.calendar.specs.declared.Moment.{Moment}
 use Rattle.layout.specs.Marks.{is}
 use Rattle.record.specs.Refusals.{on_interrupt, named, unless, first_refusal, shape, times}
-use Rattle.record.specs.Reading.{call_with, opened, or_refused, number_of}
-use Rattle.record.specs.declared.Read.{Read}
-use Rattle.record.specs.declared.Read.TheVariants.{Refused, Accepted}
+use Rattle.record.specs.Reading.{call_with, opened, or_refused, number_of, Read}
 use Rattle.record.specs.declared.Reading.{Reading}
 use Rattle.layout.specs.declared.Mark.{Mark}
 use Rattle.layout.specs.declared.Mark.TheVariants.{DT, DS, DB, IT, AC, TE, SU, CO, TI, SL}
@@ -22,11 +19,10 @@ use Rattle.task.specs.State.{unheld, suspended}
 use Rattle.task.specs.declared.Task.{Task}
 use Rattle.machine.specs.declared.Counts.{Counts}
 use Rattle.machine.specs.declared.State.{State}
-use Rattle.machine.specs.declared.Running.{Running}
+use Rattle.machine.specs.Running.{Running, runner, someone}
 use Rattle.machine.specs.declared.Sort.{Sort}
 use Rattle.machine.specs.declared.Sort.TheVariants.{Declaration, OneTask, TheRunner, ListAsked, ListGiven, AnInterrupt, EveryTask}
 use Rattle.machine.specs.State.{most_tasks, most_semaphores, most_bolts, most_interrupts, task_at, count_of}
-use Rattle.machine.specs.Running.{runner, someone}
 use Rattle.machine.specs.NextEvent.{next_event}
 use Rattle.machine.specs.Sorts.{sort_of, declares, needs_runner, given_kind, task_of}
 use Rattle.lists.specs.Lists.{every}
@@ -72,8 +68,8 @@ formal_refusal day n begun c =
 
 -- A reading that none of them refuses stays as it is.
 unfoldable pub admitted_if : ℕ → Counts → Bool → Read → Reading → Reading
-admitted_if day n begun (Refused m) r = r
-admitted_if day n begun (Accepted h) r = or_refused (formal_refusal day n begun (call_with h r.list)) r
+admitted_if day n begun (Err m) r = r
+admitted_if day n begun (Ok h) r = or_refused (formal_refusal day n begun (call_with h r.list)) r
 
 -- What bytes, counts and the first accepted call decide: the call or declaration, or the first of 2 to 7.
 abbrev pub admitted : ℕ → Counts → Bool → List ℕ → Reading

@@ -1,5 +1,5 @@
 -- Single rules, read off the machine. Proved in proofs/Rules.antt.
-use Rattle.std.specs.Prelude.{◌≡◌, ◌≢◌, ◌↔◌, true, false, List, ℕ, ◌<◌, ◌≤◌, length}
+use Rattle.std.specs.Prelude.{Some, ◌≡◌, ◌≢◌, ◌↔◌, true, false, List, ℕ, ◌<◌, ◌≤◌, length}
 use Rattle.calendar.specs.declared.Instant.{Instant}
 use Rattle.layout.specs.declared.Call.{Call}
 use Rattle.layout.specs.declared.Mark.TheVariants.{TR, CO}
@@ -14,7 +14,6 @@ use Rattle.task.specs.declared.Turn.{Turn}
 use Rattle.machine.specs.declared.Change.{Change}
 use Rattle.machine.specs.declared.Sets.{Sets}
 use Rattle.machine.specs.declared.State.{State}
-use Rattle.machine.specs.declared.Running.TheVariants.{Runs}
 use Rattle.machine.specs.Sets.{Set, has, only, mark, members, each_set, only_in}
 use Rattle.machine.specs.State.{task_at}
 use Rattle.machine.specs.Running.{runner}
@@ -39,7 +38,7 @@ MarksNameSets =
 -- A TRY never waits: granted or not, the tasks stay as they are.
 abbrev pub TryGoesOn : Type 0
 TryGoesOn =
-    (day : ℕ) (k : State) (i : ℕ) (c : Call) → runner k ≡ Runs i → c.head.mark ≡ TR → (work_of day k c).tasks ≡ k.tasks
+    (day : ℕ) (k : State) (i : ℕ) (c : Call) → runner k ≡ Some i → c.head.mark ≡ TR → (work_of day k c).tasks ≡ k.tasks
 
 -- A waiting writer goes before a reader that is as urgent.
 abbrev pub EqualWriterGoesBefore : Type 0

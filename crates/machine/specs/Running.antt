@@ -1,11 +1,13 @@
 -- The order of urgency, and the running task.
-use Rattle.std.specs.Prelude.{Bool, true, false, cond, List, ℕ, zero, suc, ◌+◌, ◌*◌, ltb, eqb}
+use Rattle.std.specs.Prelude.{Option, None, Some, Bool, true, false, cond, List, ℕ, zero, suc, ◌+◌, ◌*◌, ltb, eqb}
 use Rattle.task.specs.State.{runnable}
 use Rattle.task.specs.declared.Task.{Task}
 use Rattle.machine.specs.declared.State.{State}
-use Rattle.machine.specs.declared.Running.{Running}
-use Rattle.machine.specs.declared.Running.TheVariants.{Idle, Runs}
 use Rattle.machine.specs.State.{task_at, place_at}
+
+-- The running task, or none.
+abbrev pub Running : Type 0
+Running = Option ℕ
 
 -- A place is a byte.
 abbrev pub most_places : ℕ
@@ -16,12 +18,12 @@ unfoldable pub urgency : List ℕ → List Task → ℕ → ℕ
 urgency ps ts i = most_places * (task_at ts i).current + place_at ps i
 
 abbrev pub better : (ℕ → ℕ) → Running → ℕ → Running
-better u Idle n = Runs n
-better u (Runs j) n = cond (ltb (u n) (u j)) (Runs n) (Runs j)
+better u None n = Some n
+better u (Some j) n = cond (ltb (u n) (u j)) (Some n) (Some j)
 
 -- Of the numbers below n that pass a test, the most urgent.
 unfoldable pub most_urgent : ℕ → (ℕ → Bool) → (ℕ → ℕ) → Running
-most_urgent zero test u = Idle
+most_urgent zero test u = None
 most_urgent (suc n) test u = cond (test n) (better u (most_urgent n test u) n) (most_urgent n test u)
 
 -- The running task among the first n: the most urgent runnable one, or none.
@@ -32,11 +34,11 @@ abbrev pub runner : State → Running
 runner k = running_of k.counts.tasks k.places k.tasks
 
 abbrev pub same_running : Running → Running → Bool
-same_running Idle Idle = true
-same_running Idle (Runs j) = false
-same_running (Runs i) Idle = false
-same_running (Runs i) (Runs j) = eqb i j
+same_running None None = true
+same_running None (Some j) = false
+same_running (Some i) None = false
+same_running (Some i) (Some j) = eqb i j
 
 abbrev pub someone : Running → Bool
-someone Idle = false
-someone (Runs i) = true
+someone None = false
+someone (Some i) = true

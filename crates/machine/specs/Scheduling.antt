@@ -1,14 +1,13 @@
 -- Start schedules: what ACTIVATE, PREVENT and TRIGGER make of them, when they come due, and that nothing else touches them
 -- (document 01, "Start kinds"). Proved in proofs/Scheduling.antt and proofs/Unscheduling.antt.
-use Rattle.std.specs.Prelude.{◌≡◌, ◌≢◌, Bool, true, false, not, ◌&&◌, ◌||◌, List, ℕ, ◌+◌, ◌<◌, eqb}
+use Rattle.std.specs.Prelude.{None, Some, ◌≡◌, ◌≢◌, Bool, true, false, not, ◌&&◌, ◌||◌, List, ℕ, ◌+◌, ◌<◌, eqb}
 use Rattle.calendar.specs.Times.{duration, plus}
 use Rattle.calendar.specs.Dues.{next_due}
 use Rattle.calendar.specs.Promises.{IsNext}
 use Rattle.calendar.specs.declared.Instant.{Instant}
 use Rattle.calendar.specs.declared.End.{End}
 use Rattle.calendar.specs.declared.End.TheVariants.{Open, Until, During}
-use Rattle.calendar.specs.declared.Moment.{Moment}
-use Rattle.calendar.specs.declared.Moment.TheVariants.{Never, At}
+use Rattle.calendar.specs.Moments.{Moment}
 use Rattle.layout.specs.Marks.{is}
 use Rattle.layout.specs.declared.Call.{Call}
 use Rattle.layout.specs.declared.Head.{Head}
@@ -20,7 +19,6 @@ use Rattle.schedule.specs.Schedules.{no_schedule}
 use Rattle.schedule.specs.declared.Plan.TheVariants.{Armed}
 use Rattle.schedule.specs.declared.Schedule.{Schedule}
 use Rattle.task.specs.Continuing.{SameContinuation, SameHold}
-use Rattle.task.specs.declared.Kept.TheVariants.{Empty}
 use Rattle.task.specs.declared.Task.{Task}
 use Rattle.machine.specs.declared.State.{State}
 use Rattle.machine.specs.declared.Stepped.{Stepped}
@@ -48,9 +46,9 @@ pub record AsAsked (h : Head) (s : Schedule) : Type 0 where
 
 -- m is the last due that an end allows a start whose first is f.
 abbrev pub IsLast : ℕ → ℕ → Instant → End → Moment → Type 0
-IsLast day clock f Open m = m ≡ Never
-IsLast day clock f (Until t) m = (l : Instant) × (m ≡ At l) × IsNext day clock t f l
-IsLast day clock f (During d) m = m ≡ At (plus f d)
+IsLast day clock f Open m = m ≡ None
+IsLast day clock f (Until t) m = (l : Instant) × (m ≡ Some l) × IsNext day clock t f l
+IsLast day clock f (During d) m = m ≡ Some (plus f d)
 
 -- The interrupt and its delay, the end, the period and the priority are those of s.
 pub record SameTerms (s v : Schedule) : Type 0 where
@@ -65,14 +63,14 @@ pub record Goes (n : Instant) (s v : Schedule) : Type 0 where
   -- the next due is the calendar's
   pub next : next_of v.alarm ≡ next_due s.period s.last n
   -- if there is none, a WHEN waits for its interrupt again, and any other is gone
-  pub again : next_of v.alarm ≡ Never → listening s.alarm.plan ≡ true → v.alarm.plan ≡ Armed
-  pub gone : next_of v.alarm ≡ Never → listening s.alarm.plan ≡ false → v ≡ no_schedule
+  pub again : next_of v.alarm ≡ None → listening s.alarm.plan ≡ true → v.alarm.plan ≡ Armed
+  pub gone : next_of v.alarm ≡ None → listening s.alarm.plan ≡ false → v ≡ no_schedule
   -- what there is goes by the same terms, up to the same last due
   pub terms : planned v.alarm.plan ≡ true → SameTerms s v × (v.last ≡ s.last)
 
 -- A schedule s that begins at n with its first due at f, and is v after the call; due: the call makes a start due.
 pub record ComesFirst (day clock : ℕ) (n f : Instant) (s v : Schedule) (due : Bool) : Type 0 where
-  pub next : next_of s.alarm ≡ At f
+  pub next : next_of s.alarm ≡ Some f
   pub last : IsLast day clock f s.end s.last
   -- it pends
   pub pends : f.0 ≢ n.0 → (v ≡ s) × (due ≡ false)
@@ -111,7 +109,7 @@ pub record CallsSchedule : Type 0 where
   pub prevent : (day : ℕ) (k : State) (s : List ℕ) (c : Call) → Accepts day k s c → c.head.mark ≡ PR
       → let t = task_at k.tasks c.head.number in
       let u = task_after day k s c.head.number in
-      (u.schedule ≡ no_schedule) × (u.kept ≡ Empty) × (u.alive ≡ t.alive)
+      (u.schedule ≡ no_schedule) × (u.kept ≡ None) × (u.alive ≡ t.alive)
   -- each declared task whose schedule waits for an interrupt, which is enabled: it begins anew, whatever was to come
   pub trigger : (day : ℕ) (k : State) (s : List ℕ) (c : Call) (i : ℕ) → Accepts day k s c
       → c.head.mark ≡ TG → enabled_at k c.head.number ≡ true
@@ -158,7 +156,7 @@ pub record StartDue (day : ℕ) (k : State) (s : List ℕ) (i : ℕ) (x : Instan
 abbrev pub StartsInTime : Type 0
 StartsInTime =
     (day : ℕ) (k : State) (s : List ℕ) (i : ℕ) (x : Instant) → i < k.counts.tasks
-    → next_of (task_at k.tasks i).schedule.alarm ≡ At x → Arrives day k s x
+    → next_of (task_at k.tasks i).schedule.alarm ≡ Some x → Arrives day k s x
     → StartDue day k s i x
 
 -- and in no other: who is in the due set of an arrival at x had a schedule that pends at x.
@@ -171,6 +169,6 @@ NoOtherStarts =
 abbrev pub StartPromiseKept : Type 0
 StartPromiseKept =
     (day : ℕ) (k : State) (rs : List (List ℕ)) (i : ℕ) (x : Instant) → i < k.counts.tasks
-    → next_of (task_at k.tasks i).schedule.alarm ≡ At x → unmet touches_schedule day i k rs ≡ true
+    → next_of (task_at k.tasks i).schedule.alarm ≡ Some x → unmet touches_schedule day i k rs ≡ true
     → let z = final day k rs in (s : List ℕ) → Arrives day z s x
     → StartDue day z s i x

@@ -1,14 +1,12 @@
 -- Serving: what ends every accepted call.
-use Rattle.std.specs.Prelude.{List, ℕ, zero, suc, set}
+use Rattle.std.specs.Prelude.{None, Some, List, ℕ, zero, suc, set}
 use Rattle.lock.specs.Locks.{take_all}
 use Rattle.lock.specs.declared.Locks.{Locks}
 use Rattle.task.specs.State.{wanted, wait_over}
 use Rattle.task.specs.declared.Task.{Task}
-use Rattle.machine.specs.declared.Running.{Running}
-use Rattle.machine.specs.declared.Running.TheVariants.{Idle, Runs}
+use Rattle.machine.specs.Running.{Running, urgency, most_urgent}
 use Rattle.machine.specs.Sets.{put}
 use Rattle.machine.specs.State.{task_at}
-use Rattle.machine.specs.Running.{urgency, most_urgent}
 use Rattle.machine.specs.Granting.{servable}
 
 -- What serving changes.
@@ -33,4 +31,4 @@ grant_to i p =
 -- While there is one to be served, the next is granted. Each grant ends a wait, so as many turns as tasks are enough.
 unfoldable pub serve : ℕ → List ℕ → ℕ → Served → Served
 serve n ps zero p = p
-serve n ps (suc turns) p = elim (next_served n ps p) [ Idle ↦ p | Runs i ↦ serve n ps turns (grant_to i p) ]
+serve n ps (suc turns) p = elim (next_served n ps p) [ None ↦ p | Some i ↦ serve n ps turns (grant_to i p) ]

@@ -1,9 +1,8 @@
 -- The next event on file, and sleep to it (request 7). Proved in proofs/Sleeping.antt.
-use Rattle.std.specs.Prelude.{◌≡◌, false, ℕ, suc, ◌+◌, ◌≤◌, length}
+use Rattle.std.specs.Prelude.{None, Some, ◌≡◌, false, ℕ, suc, ◌+◌, ◌≤◌, length}
 use Rattle.calendar.specs.Limits.{last_instant}
 use Rattle.calendar.specs.Moments.{comes_by}
 use Rattle.calendar.specs.declared.Instant.{Instant}
-use Rattle.calendar.specs.declared.Moment.TheVariants.{Never, At}
 use Rattle.machine.specs.declared.State.{State}
 use Rattle.machine.specs.State.{most_tasks}
 use Rattle.machine.specs.Running.{runner}
@@ -23,7 +22,7 @@ FiledIsNext = (day : ℕ) (k : State) → kernel_refusal day k ≡ 0 → IsNextE
 abbrev pub NoneIsForGood : Type 0
 NoneIsForGood =
     (day d : ℕ) (k : State) → length k.tasks ≡ most_tasks → kernel_refusal day k ≡ 0
-    → k.file.next ≡ Never → k.now.0 + d ≤ last_instant → QuietTicks day d k
+    → k.file.next ≡ None → k.now.0 + d ≤ last_instant → QuietTicks day d k
 
 -- ---- SL
 
@@ -41,7 +40,7 @@ pub record Slept (day : ℕ) (k : State) (x : Instant) : Type 0 where
 abbrev pub SleepIsTicks : Type 0
 SleepIsTicks =
     (day : ℕ) (k : State) (x : Instant) → length k.tasks ≡ most_tasks → kernel_refusal day k ≡ 0
-    → k.file.next ≡ At x → x.0 ≤ last_instant → Slept day k x
+    → k.file.next ≡ Some x → x.0 ≤ last_instant → Slept day k x
 
 -- Any other is refused with 17: nothing is to come, or only beyond the last instant.
 abbrev pub SleepIsRefused : Type 0

@@ -1,12 +1,11 @@
 -- The sort of each mark: what a call is about.
-use Rattle.std.specs.Prelude.{Bool, true, false, cond, ℕ}
+use Rattle.std.specs.Prelude.{None, Some, Bool, true, false, cond, ℕ}
 use Rattle.layout.specs.declared.Head.{Head}
 use Rattle.layout.specs.declared.Mark.{Mark}
 use Rattle.layout.specs.declared.Mark.TheVariants.{DT, DS, DB, IT, DC, AC, TE, SU, PR, CO, EN, RE, RQ, RL, TR, RS, FR, ET, LV, TG, EI, XI, TI, SL}
 use Rattle.lock.specs.declared.Wait.{Wait}
 use Rattle.lock.specs.declared.Wait.TheVariants.{Nothing, Request, Reserve, Enter}
-use Rattle.machine.specs.declared.Running.{Running}
-use Rattle.machine.specs.declared.Running.TheVariants.{Idle, Runs}
+use Rattle.machine.specs.Running.{Running}
 use Rattle.machine.specs.declared.Sort.{Sort}
 use Rattle.machine.specs.declared.Sort.TheVariants.{Declaration, OneTask, TheRunner, ListAsked, ListGiven, AnInterrupt, EveryTask}
 
@@ -38,12 +37,7 @@ sort_of SL = EveryTask
 
 abbrev pub declaring : Sort → Bool
 declaring Declaration = true
-declaring OneTask = false
-declaring TheRunner = false
-declaring (ListAsked w b) = false
-declaring (ListGiven w) = false
-declaring AnInterrupt = false
-declaring EveryTask = false
+declaring s = false
 
 -- A mark of a declaration; any other is a call's.
 unfoldable pub declares : Mark → Bool
@@ -51,59 +45,36 @@ declares m = declaring (sort_of m)
 
 -- A task has to run: EN, RE and every call with a list.
 abbrev pub needs_runner : Sort → Bool
-needs_runner Declaration = false
-needs_runner OneTask = false
 needs_runner TheRunner = true
 needs_runner (ListAsked w b) = true
 needs_runner (ListGiven w) = true
-needs_runner AnInterrupt = false
-needs_runner EveryTask = false
+needs_runner s = false
 
 -- What a call asks for.
 abbrev pub asked_kind : Sort → Wait
-asked_kind Declaration = Nothing
-asked_kind OneTask = Nothing
-asked_kind TheRunner = Nothing
 asked_kind (ListAsked w b) = w
-asked_kind (ListGiven w) = Nothing
-asked_kind AnInterrupt = Nothing
-asked_kind EveryTask = Nothing
+asked_kind s = Nothing
 
 -- A TRY doesn't wait for what it asks for.
 abbrev pub staying : Sort → Bool
-staying Declaration = true
-staying OneTask = true
-staying TheRunner = true
 staying (ListAsked w b) = b
-staying (ListGiven w) = true
-staying AnInterrupt = true
-staying EveryTask = true
+staying s = true
 
 -- What a call gives back.
 abbrev pub given_kind : Sort → Wait
-given_kind Declaration = Nothing
-given_kind OneTask = Nothing
-given_kind TheRunner = Nothing
-given_kind (ListAsked w b) = Nothing
 given_kind (ListGiven w) = w
-given_kind AnInterrupt = Nothing
-given_kind EveryTask = Nothing
+given_kind s = Nothing
 
 -- ---- whom a call is about
 
 -- The running task, or task 0 where nobody runs.
 abbrev pub runner_at : Running → ℕ
-runner_at Idle = 0
-runner_at (Runs i) = i
+runner_at None = 0
+runner_at (Some i) = i
 
 abbrev pub naming : Sort → Bool
-naming Declaration = false
 naming OneTask = true
-naming TheRunner = false
-naming (ListAsked w b) = false
-naming (ListGiven w) = false
-naming AnInterrupt = false
-naming EveryTask = false
+naming s = false
 
 -- The task that a call names, else the running one.
 abbrev pub task_of : Sort → Head → Running → ℕ

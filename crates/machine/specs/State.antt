@@ -1,8 +1,7 @@
 -- What a kernel holds (document 01), and the kernel with one part changed.
-use Rattle.std.specs.Prelude.{Bool, true, false, List, ℕ, get_or, replicate}
+use Rattle.std.specs.Prelude.{None, Bool, true, false, List, ℕ, get_or, replicate}
 use Rattle.calendar.specs.Times.{instant}
 use Rattle.calendar.specs.declared.Instant.{Instant}
-use Rattle.calendar.specs.declared.Moment.TheVariants.{Never}
 use Rattle.layout.specs.Fields.{no_list}
 use Rattle.lock.specs.Locks.{most_locks, empty_bolt}
 use Rattle.lock.specs.declared.Wait.{Wait}
@@ -12,11 +11,9 @@ use Rattle.schedule.specs.Alarms.{no_alarm}
 use Rattle.schedule.specs.Schedules.{no_schedule}
 use Rattle.task.specs.State.{no_task}
 use Rattle.task.specs.declared.Hold.TheVariants.{Unheld}
-use Rattle.task.specs.declared.Kept.TheVariants.{Empty}
 use Rattle.task.specs.declared.Task.{Task}
 use Rattle.machine.specs.declared.Counts.{Counts}
 use Rattle.machine.specs.declared.OnFile.{OnFile}
-use Rattle.machine.specs.declared.Running.TheVariants.{Idle}
 use Rattle.machine.specs.declared.State.{State}
 
 -- ---- how many of each kind there can be
@@ -61,7 +58,7 @@ fresh_task p =
       declared = p;
       current = p;
       alive = false;
-      kept = Empty;
+      kept = None;
       wait = Nothing;
       len = 0;
       list = no_list;
@@ -88,93 +85,27 @@ nothing =
       clock = 0;
       now = instant 0;
       begun = false;
-      file = record { running = Idle; next = Never };
+      file = record { running = None; next = None };
     }
 
 -- ---- a kernel with some parts changed
 
 abbrev pub with_state : List Task → Locks → List Bool → State → State
-with_state ts r is k =
-    record {
-      tasks = ts;
-      places = k.places;
-      locks = r;
-      enabled = is;
-      counts = k.counts;
-      clock = k.clock;
-      now = k.now;
-      begun = k.begun;
-      file = k.file;
-    }
+with_state ts r is k = record k { tasks = ts; locks = r; enabled = is }
 
 abbrev pub with_places : List ℕ → State → State
-with_places ps k =
-    record {
-      tasks = k.tasks;
-      places = ps;
-      locks = k.locks;
-      enabled = k.enabled;
-      counts = k.counts;
-      clock = k.clock;
-      now = k.now;
-      begun = k.begun;
-      file = k.file;
-    }
+with_places ps k = record k { places = ps }
 
 abbrev pub with_counts : Counts → State → State
-with_counts n k =
-    record {
-      tasks = k.tasks;
-      places = k.places;
-      locks = k.locks;
-      enabled = k.enabled;
-      counts = n;
-      clock = k.clock;
-      now = k.now;
-      begun = k.begun;
-      file = k.file;
-    }
+with_counts n k = record k { counts = n }
 
 abbrev pub with_clock : ℕ → State → State
-with_clock t k =
-    record {
-      tasks = k.tasks;
-      places = k.places;
-      locks = k.locks;
-      enabled = k.enabled;
-      counts = k.counts;
-      clock = t;
-      now = k.now;
-      begun = k.begun;
-      file = k.file;
-    }
+with_clock t k = record k { clock = t }
 
 -- f is on file.
 abbrev pub with_file : OnFile → State → State
-with_file f k =
-    record {
-      tasks = k.tasks;
-      places = k.places;
-      locks = k.locks;
-      enabled = k.enabled;
-      counts = k.counts;
-      clock = k.clock;
-      now = k.now;
-      begun = k.begun;
-      file = f;
-    }
+with_file f k = record k { file = f }
 
 -- The kernel after an accepted call, at instant n.
 abbrev pub begun_at : Instant → State → State
-begun_at n k =
-    record {
-      tasks = k.tasks;
-      places = k.places;
-      locks = k.locks;
-      enabled = k.enabled;
-      counts = k.counts;
-      clock = k.clock;
-      now = n;
-      begun = true;
-      file = k.file;
-    }
+begun_at n k = record k { now = n; begun = true }

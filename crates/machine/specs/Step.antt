@@ -1,17 +1,13 @@
 -- The machine: any kernel value and any bytes to the next kernel and the answer.
-use Rattle.std.specs.Prelude.{cond, List, ℕ, zero, suc}
+use Rattle.std.specs.Prelude.{Err, None, Ok, cond, List, ℕ, zero, suc}
 use Rattle.layout.specs.declared.Call.{Call}
-use Rattle.record.specs.Reading.{call_with}
-use Rattle.record.specs.declared.Read.{Read}
-use Rattle.record.specs.declared.Read.TheVariants.{Refused, Accepted}
+use Rattle.record.specs.Reading.{call_with, Read}
 use Rattle.machine.specs.declared.State.{State}
-use Rattle.machine.specs.declared.Running.{Running}
-use Rattle.machine.specs.declared.Running.TheVariants.{Idle}
+use Rattle.machine.specs.Running.{Running, runner}
 use Rattle.machine.specs.declared.Answer.{Answer}
 use Rattle.machine.specs.declared.Stepped.{Stepped}
 use Rattle.machine.specs.Sets.{no_sets, with_granted}
 use Rattle.machine.specs.State.{with_state, with_places, with_file, begun_at}
-use Rattle.machine.specs.Running.{runner}
 use Rattle.machine.specs.NextEvent.{file_of}
 use Rattle.machine.specs.Work.{Work}
 use Rattle.machine.specs.Serving.{serve}
@@ -53,7 +49,7 @@ or_refuse k (suc n) s = answered k (suc n) (runner k)
 -- Refusals 1 and 16: no task runs.
 abbrev pub or_turn_away : State → ℕ → Stepped → Stepped
 or_turn_away k zero s = s
-or_turn_away k (suc n) s = answered k (suc n) Idle
+or_turn_away k (suc n) s = answered k (suc n) None
 
 module _ (day : ℕ) where
   -- An accepted declaration or call.
@@ -78,8 +74,8 @@ module _ (day : ℕ) where
   carry k c = let s = carry_on k c in tested k s
 
   abbrev pub step_read : State → Read → List ℕ → Stepped
-  step_read k (Refused n) l = answered k n (runner k)
-  step_read k (Accepted h) l = settle k (call_with h l)
+  step_read k (Err n) l = answered k n (runner k)
+  step_read k (Ok h) l = settle k (call_with h l)
 
   -- The machine over bytes.
   unfoldable pub step : State → List ℕ → Stepped

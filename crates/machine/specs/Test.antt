@@ -1,12 +1,10 @@
 -- Refusals 1 and 16: the kernel test, and what is on file. Places beyond the counts aren't looked at.
-use Rattle.std.specs.Prelude.{Bool, true, not, ◌&&◌, ◌||◌, List, ℕ, leb, ltb, eqb}
+use Rattle.std.specs.Prelude.{None, Option, Some, Bool, true, not, ◌&&◌, ◌||◌, List, ℕ, leb, ltb, eqb}
 use Rattle.calendar.specs.Limits.{longest_duration, last_instant, most_instant, is_time_of_day, is_duration, is_period}
-use Rattle.calendar.specs.Moments.{same_moment}
+use Rattle.calendar.specs.Moments.{same_moment, Moment}
 use Rattle.calendar.specs.declared.Instant.{Instant}
 use Rattle.calendar.specs.declared.End.{End}
 use Rattle.calendar.specs.declared.End.TheVariants.{Open, Until, During}
-use Rattle.calendar.specs.declared.Moment.{Moment}
-use Rattle.calendar.specs.declared.Moment.TheVariants.{Never, At}
 use Rattle.lists.specs.Lists.{distinct, every}
 use Rattle.record.specs.Refusals.{most_value, unless}
 use Rattle.lock.specs.Locks.{waiting, value_at, bolt_at}
@@ -16,8 +14,6 @@ use Rattle.schedule.specs.declared.Schedule.{Schedule}
 use Rattle.task.specs.State.{rest_ok, wanted}
 use Rattle.task.specs.declared.Hold.{Hold}
 use Rattle.task.specs.declared.Hold.TheVariants.{Unheld, Suspended, Delayed}
-use Rattle.task.specs.declared.Kept.{Kept}
-use Rattle.task.specs.declared.Kept.TheVariants.{Empty, Back}
 use Rattle.task.specs.declared.Task.{Task}
 use Rattle.machine.specs.declared.Counts.{Counts}
 use Rattle.machine.specs.declared.OnFile.{OnFile}
@@ -48,9 +44,9 @@ hold_ok Unheld = true
 hold_ok Suspended = true
 hold_ok (Delayed n) = is_stored n
 
-abbrev pub kept_ok : Kept → Bool
-kept_ok Empty = true
-kept_ok (Back p) = is_priority p
+abbrev pub kept_ok : Option ℕ → Bool
+kept_ok None = true
+kept_ok (Some p) = is_priority p
 
 abbrev pub end_ok : ℕ → End → Bool
 end_ok day Open = true
@@ -58,8 +54,8 @@ end_ok day (Until t) = is_time_of_day day t
 end_ok day (During d) = is_duration d.0
 
 abbrev pub moment_ok : Moment → Bool
-moment_ok Never = true
-moment_ok (At n) = is_stored n
+moment_ok None = true
+moment_ok (Some n) = is_stored n
 
 -- ---- one task
 

@@ -1,12 +1,11 @@
 -- Equal urgency takes turns: what the places mean, for every kernel that passes the test and any bytes (request 3).
 -- Proved in proofs/Taking.antt.
-use Rattle.std.specs.Prelude.{◌≡◌, ◌≢◌, Bool, true, false, cond, ◌&&◌, ◌||◌, List, [], ◌∷◌, ℕ, suc, ◌≤◌, ◌<◌, ltb, eqb, length}
+use Rattle.std.specs.Prelude.{Some, ◌≡◌, ◌≢◌, Bool, true, false, cond, ◌&&◌, ◌||◌, List, [], ◌∷◌, ℕ, suc, ◌≤◌, ◌<◌, ltb, eqb, length}
 use Rattle.layout.specs.Fields.{Octets}
 use Rattle.layout.specs.declared.Call.{Call}
 use Rattle.lock.specs.Locks.{waiting}
 use Rattle.task.specs.State.{runnable}
 use Rattle.machine.specs.declared.State.{State}
-use Rattle.machine.specs.declared.Running.TheVariants.{Runs}
 use Rattle.machine.specs.declared.Stepped.{Stepped}
 use Rattle.machine.specs.Sets.{holds}
 use Rattle.machine.specs.State.{task_at, place_at, nothing}
@@ -133,7 +132,7 @@ pub record Behind (k : State) (i j : ℕ) : Type 0 where
   pub place : place_at k.places j < place_at k.places i
   pub less_urgent : (task_at k.tasks i).current ≡ (task_at k.tasks j).current
       → urgency k.places k.tasks j < urgency k.places k.tasks i
-  pub yields : (task_at k.tasks i).current ≡ (task_at k.tasks j).current → runnable_in k j ≡ true → runner k ≢ Runs i
+  pub yields : (task_at k.tasks i).current ≡ (task_at k.tasks j).current → runnable_in k j ≡ true → runner k ≢ Some i
 
 -- Who becomes runnable while j stays so stands behind j.
 abbrev pub TurnsAreTaken : Type 0

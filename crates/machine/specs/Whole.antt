@@ -1,12 +1,11 @@
 -- Lists are granted whole or not at all, and serving is a loop. Proved in proofs/Whole.antt and proofs/Serves.antt.
-use Rattle.std.specs.Prelude.{◌≡◌, ◌≢◌, Bool, true, false, List, ℕ, ◌<◌, ◌^◌, set}
+use Rattle.std.specs.Prelude.{Some, ◌≡◌, ◌≢◌, Bool, true, false, List, ℕ, ◌<◌, ◌^◌, set}
 use Rattle.layout.specs.declared.Call.{Call}
 use Rattle.record.specs.Refusals.{named}
 use Rattle.lock.specs.Locks.{all_free, take_all}
 use Rattle.lock.specs.declared.Wait.{Wait}
 use Rattle.task.specs.State.{wanted, wait_for, wait_over}
 use Rattle.machine.specs.declared.State.{State}
-use Rattle.machine.specs.declared.Running.TheVariants.{Runs}
 use Rattle.machine.specs.declared.Sort.TheVariants.{ListAsked}
 use Rattle.machine.specs.Sets.{put}
 use Rattle.machine.specs.State.{task_at}
@@ -41,7 +40,7 @@ Asked k i waits w c false a = Untaken k i waits w c a
 -- Asking takes all of the list or nothing.
 abbrev pub AsksWhole : Type 0
 AsksWhole =
-    (day : ℕ) (k : State) (i : ℕ) (w : Wait) (waits : Bool) (c : Call) → runner k ≡ Runs i
+    (day : ℕ) (k : State) (i : ℕ) (w : Wait) (waits : Bool) (c : Call) → runner k ≡ Some i
     → sort_of c.head.mark ≡ ListAsked w waits
     → Asked k i waits w c
     (could_be_granted k.counts.tasks k.tasks k.locks (task_at k.tasks i).current w (named c)) (work_of day k c)

@@ -51,7 +51,7 @@ pub struct Counts {
 #[derive(Clone, Copy)]
 pub struct State {
     pub tasks: [Task; MOST_TASKS as usize],
-    // Of each task its place in the order of events.
+    // Of each task its place in the order of events. Beside the tasks, since a move goes through all places at once.
     pub places: Places,
     pub locks: Locks,
     pub enabled: [bool; MOST_INTERRUPTS as usize],
@@ -64,11 +64,8 @@ pub struct State {
     pub file: OnFile,
 }
 
-#[derive(Clone, Copy)]
-pub enum Running {
-    Idle,
-    Runs(u8),
-}
+// The running task, or none.
+pub type Running = Option<u8>;
 
 // What a kernel has on file, so that nobody needs to look for it.
 #[derive(Clone, Copy)]
@@ -88,7 +85,8 @@ pub struct Sets {
     pub granted: u32,
 }
 
-// A number, 0 or a refusal; the running task; and the sets.
+// A number, 0 or a refusal; the running task; and the sets. Programs print the number (`line`), and the laws of answers
+// count with it (`RefusalsAreNumbered`).
 #[derive(Clone, Copy)]
 pub struct Answer {
     pub number: u8,

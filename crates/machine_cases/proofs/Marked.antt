@@ -1,4 +1,5 @@
 -- The marked cases hold: what is short is computed, long rows of ticks go by the law of quiet ticks.
+use Rattle.std.specs.Prelude.{None, Some}
 use mathlib.Core.Path.{◌≡◌, refl, ap, ◌∙◌}
 use mathlib.Core.Bool.{true, false}
 use mathlib.Core.List.{List, [], ◌∷◌, ◌++◌}
@@ -6,10 +7,8 @@ use Prim.Native.Nat.{ℕ, ◌+◌, ◌-◌, ◌≤◌, ◌^◌}
 use native.Mathlib.Omega.{arith}
 use Rattle.calendar.specs.Limits.{day_length, last_instant}
 use Rattle.schedule.specs.Schedules.{no_schedule}
-use Rattle.task.specs.declared.Kept.TheVariants.{Empty}
 use Rattle.task.specs.declared.Task.{Task}
 use Rattle.machine.specs.declared.State.{State}
-use Rattle.machine.specs.declared.Running.TheVariants.{Idle, Runs}
 use Rattle.machine.specs.State.{nothing}
 use Rattle.machine.specs.Running.{runner}
 use Rattle.machine.specs.Test.{kernel_refusal}
@@ -29,53 +28,53 @@ at_once : List (List ℕ)
 at_once = declare_task 5 ∷ declare_clock (hours 12) ∷ (AT hours 12 ALL hours 1 UNTIL hours 12 ACTIVATE 0) ∷ []
 
 -- The schedule is gone after its only due.
-gone : after at_once ≡ lone (hours 12) 0 (only true Empty no_schedule)
+gone : after at_once ≡ lone (hours 12) 0 (only true None no_schedule)
 unfolding computed at_once lone
 gone = refl
 
-due_at_once : answers at_once ≡ quiet Idle ∷ quiet Idle ∷ line 0 (Runs 0) 1 1 0 0 0 ∷ []
+due_at_once : answers at_once ≡ quiet None ∷ quiet None ∷ line 0 (Some 0) 1 1 0 0 0 ∷ []
 unfolding computed at_once
 due_at_once = refl
 
-tested : kernel_refusal day_length (lone (hours 12) 0 (only true Empty no_schedule)) ≡ 0
+tested : kernel_refusal day_length (lone (hours 12) 0 (only true None no_schedule)) ≡ 0
 unfolding computed lone
 tested = refl
 
 one_start : (d : ℕ) → d ≤ 2 ^ 40
-    → answers (at_once ++ row d one_tick) ≡ quiet Idle ∷ quiet Idle ∷ line 0 (Runs 0) 1 1 0 0 0 ∷ row d (quiet (Runs 0))
+    → answers (at_once ++ row d one_tick) ≡ quiet None ∷ quiet None ∷ line 0 (Some 0) 1 1 0 0 0 ∷ row d (quiet (Some 0))
 one_start d l =
     answers_append at_once (row d one_tick)
-    ∙ rw (due_at_once, gone, lone_answers (hours 12) 0 d (only true Empty no_schedule) tested (λ x a b. refl) (omega arith), awake (hours 12) 0 Empty no_schedule)
+    ∙ rw (due_at_once, gone, lone_answers (hours 12) 0 d (only true None no_schedule) tested (λ x a b. refl) (omega arith), awake (hours 12) 0 None no_schedule)
 
 -- After an hour of ticks the task is as it was declared.
 declared : List (List ℕ)
 declared = declare_task 5 ∷ declare_clock (hours 12) ∷ []
 
 abbrev idle : Task
-idle = only false Empty no_schedule
+idle = only false None no_schedule
 
 hour_passes : (rs : List (List ℕ)) → answers (an_hour ++ rs) ≡ an_hour_lines ++ from (lone (hours 12) (hours 1) idle) rs
 unfolding computed declared lone later
 hour_passes rs =
     answers_append declared (row (hours 1) one_tick ++ rs)
-    ∙ ap (λ l. quiet Idle ∷ quiet Idle ∷ l) (quiet_then (hours 1) (after declared) refl refl (lone_quiet (hours 12) 0 (hours 1) idle (λ x a b. refl)) (omega arith) rs)
+    ∙ ap (λ l. quiet None ∷ quiet None ∷ l) (quiet_then (hours 1) (after declared) refl refl (lone_quiet (hours 12) 0 (hours 1) idle (λ x a b. refl)) (omega arith) rs)
 
 due_once : step day_length (lone (hours 12) (hours 1) idle) (AT hours 13 ACTIVATE 0)
-    ≡ record { state = lone (hours 12) (hours 1) (only true Empty no_schedule); answer = line 0 (Runs 0) 1 1 0 0 0 }
+    ≡ record { state = lone (hours 12) (hours 1) (only true None no_schedule); answer = line 0 (Some 0) 1 1 0 0 0 }
 unfolding computed lone
 due_once = refl
 
-tested_once : kernel_refusal day_length (lone (hours 12) (hours 1) (only true Empty no_schedule)) ≡ 0
+tested_once : kernel_refusal day_length (lone (hours 12) (hours 1) (only true None no_schedule)) ≡ 0
 unfolding computed lone
 tested_once = refl
 
 once : (d : ℕ) → hours 1 + d ≤ 2 ^ 40
     → answers (an_hour ++ (AT hours 13 ACTIVATE 0) ∷ row d one_tick)
-    ≡ an_hour_lines ++ line 0 (Runs 0) 1 1 0 0 0 ∷ row d (quiet (Runs 0))
+    ≡ an_hour_lines ++ line 0 (Some 0) 1 1 0 0 0 ∷ row d (quiet (Some 0))
 unfolding log
 once d l =
     hour_passes ((AT hours 13 ACTIVATE 0) ∷ row d one_tick)
-    ∙ rw (due_once, lone_answers (hours 12) (hours 1) d (only true Empty no_schedule) tested_once (λ x a b. refl) l, awake (hours 12) (hours 1) Empty no_schedule)
+    ∙ rw (due_once, lone_answers (hours 12) (hours 1) d (only true None no_schedule) tested_once (λ x a b. refl) l, awake (hours 12) (hours 1) None no_schedule)
 
 -- With an end two hours later.
 abbrev pause : ℕ
@@ -84,7 +83,7 @@ pause = hours 1 - 1
 due_first : step day_length (lone (hours 12) (hours 1) idle) (AT hours 13 ALL hours 1 UNTIL hours 15 ACTIVATE 0)
     ≡ record {
       state = lone (hours 12) (hours 1) (started (hours 12) (hours 13) (hours 15) pause (hours 1));
-      answer = line 0 (Runs 0) 1 1 0 0 0;
+      answer = line 0 (Some 0) 1 1 0 0 0;
     }
 unfolding computed lone
 due_first = refl
@@ -116,11 +115,11 @@ within : nothing.now.0 + 2 ^ 40 ≤ last_instant
 unfolding nothing
 within = omega arith
 
-nobody_runs : runner nothing ≡ Idle
+nobody_runs : runner nothing ≡ None
 unfolding computed
 nobody_runs = refl
 
-at_last : from (later (2 ^ 40) nothing) (one_tick ∷ []) ≡ plain_answer 15 Idle ∷ []
+at_last : from (later (2 ^ 40) nothing) (one_tick ∷ []) ≡ plain_answer 15 None ∷ []
 unfolding computed later
 at_last = refl
 
@@ -128,7 +127,7 @@ ticks_pass : QuietTicks day_length (2 ^ 40) nothing
 unfolding nothing
 ticks_pass = ticks_are_quiet day_length (2 ^ 40) nothing refl nothing_tested (nothing_comes (2 ^ 40)) within
 
-last_tick : answers (row (2 ^ 40) one_tick ++ one_tick ∷ []) ≡ row (2 ^ 40) (quiet Idle) ++ plain_answer 15 Idle ∷ []
+last_tick : answers (row (2 ^ 40) one_tick ++ one_tick ∷ []) ≡ row (2 ^ 40) (quiet None) ++ plain_answer 15 None ∷ []
 unfolding nothing
 last_tick =
     quiet_then (2 ^ 40) nothing refl nothing_tested (nothing_comes (2 ^ 40)) within (one_tick ∷ []) ∙ rw (nobody_runs, at_last)

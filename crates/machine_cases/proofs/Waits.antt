@@ -1,4 +1,5 @@
 -- Long waits of a kernel with one task: what its ticks answer, and where they lead.
+use Rattle.std.specs.Prelude.{None, Option, Some}
 use mathlib.Core.Path.{◌≡◌, refl, ◌∙◌}
 use mathlib.Core.Bool.{Bool, true, false, cond}
 use mathlib.Core.List.{List, [], ◌∷◌, ◌++◌, map, map-append}
@@ -17,11 +18,9 @@ use Rattle.schedule.specs.declared.Schedule.{Schedule}
 use Rattle.task.specs.Coming.{comes}
 use Rattle.task.specs.State.{runnable}
 use Rattle.task.specs.declared.Hold.TheVariants.{Unheld}
-use Rattle.task.specs.declared.Kept.{Kept}
 use Rattle.task.specs.declared.Task.{Task}
 use Rattle.machine.specs.declared.State.{State}
 use Rattle.machine.specs.declared.Answer.{Answer}
-use Rattle.machine.specs.declared.Running.TheVariants.{Idle, Runs}
 use Rattle.machine.specs.State.{most_tasks, most_semaphores, most_bolts, most_interrupts, vacant, nothing}
 use Rattle.machine.specs.Running.{most_urgent, running_of, runner}
 use Rattle.machine.specs.Test.{kernel_refusal}
@@ -56,7 +55,7 @@ module _ (d : ℕ) (k : State) (room : length k.tasks ≡ most_tasks) (v : kerne
 -- ---- a kernel with one task
 
 -- A task of priority 5 that is not held and waits for nothing.
-abbrev pub only : Bool → Kept → Schedule → Task
+abbrev pub only : Bool → Option ℕ → Schedule → Task
 only alive kept s =
     record {
       declared = 5;
@@ -85,14 +84,14 @@ lone clock now t =
       clock = clock;
       now = instant now;
       begun = true;
-      file = record { running = cond (runnable t) (Runs 0) Idle; next = next_of t.schedule.alarm };
+      file = record { running = cond (runnable t) (Some 0) None; next = next_of t.schedule.alarm };
     }
 
-pub asleep : (c n : ℕ) (kept : Kept) (s : Schedule) → runner (lone c n (only false kept s)) ≡ Idle
+pub asleep : (c n : ℕ) (kept : Option ℕ) (s : Schedule) → runner (lone c n (only false kept s)) ≡ None
 unfolding lone running_of most_urgent
 asleep c n kept s = refl
 
-pub awake : (c n : ℕ) (kept : Kept) (s : Schedule) → runner (lone c n (only true kept s)) ≡ Runs 0
+pub awake : (c n : ℕ) (kept : Option ℕ) (s : Schedule) → runner (lone c n (only true kept s)) ≡ Some 0
 unfolding lone running_of most_urgent
 awake c n kept s = refl
 

@@ -1,12 +1,11 @@
 -- Each ground of refusal 1 alone: a kernel at the limit takes a tick, its neighbour is refused with 1. The grounds about
 -- places stand in TurnCases. Proved in proofs/Grounds.antt.
-use Rattle.std.specs.Prelude.{◌≡◌, Bool, true, false, List, [], ◌∷◌, ◌++◌, ℕ, zero, suc, ◌+◌, ◌^◌, length, set}
+use Rattle.std.specs.Prelude.{None, Some, ◌≡◌, Bool, true, false, List, [], ◌∷◌, ◌++◌, ℕ, zero, suc, ◌+◌, ◌^◌, length, set}
 use Rattle.calendar.specs.Limits.{day_length}
 use Rattle.calendar.specs.Times.{instant, duration}
 use Rattle.calendar.specs.declared.End.{End}
 use Rattle.calendar.specs.declared.End.TheVariants.{Open, Until, During}
-use Rattle.calendar.specs.declared.Moment.{Moment}
-use Rattle.calendar.specs.declared.Moment.TheVariants.{Never, At}
+use Rattle.calendar.specs.Moments.{Moment}
 use Rattle.lock.specs.Locks.{empty_bolt, with_value, with_bolt}
 use Rattle.lock.specs.declared.Locks.{Locks}
 use Rattle.lock.specs.declared.Wait.{Wait}
@@ -15,11 +14,9 @@ use Rattle.schedule.specs.Alarms.{set_for, armed, set_off}
 use Rattle.schedule.specs.declared.Alarm.{Alarm}
 use Rattle.task.specs.State.{with_current, with_alive, with_kept, with_hold, with_schedule, with_continuation, wait_for}
 use Rattle.task.specs.declared.Hold.TheVariants.{Suspended, Delayed}
-use Rattle.task.specs.declared.Kept.TheVariants.{Back}
 use Rattle.task.specs.declared.Task.{Task}
 use Rattle.machine.specs.declared.State.{State}
 use Rattle.machine.specs.declared.Answer.{Answer}
-use Rattle.machine.specs.declared.Running.TheVariants.{Idle}
 use Rattle.machine.specs.State.{task_at, fresh_task, with_state, with_clock, with_file, begun_at}
 use Rattle.machine.specs.NextEvent.{file_of}
 use Rattle.machine.specs.Step.{plain_answer, step}
@@ -34,7 +31,7 @@ ticked k = (step day_length (with_file (file_of k) k) one_tick).answer
 
 -- With a in its place a kernel takes a tick; with b it is refused with 1.
 abbrev pub Limit : {A : Type 0} → (A → State) → A → A → Type 0
-Limit f a b = ((ticked (f a)).number ≡ 0) × (ticked (f b) ≡ plain_answer 1 Idle)
+Limit f a b = ((ticked (f a)).number ≡ 0) × (ticked (f b) ≡ plain_answer 1 None)
 
 -- ---- the kernels
 
@@ -86,7 +83,7 @@ declaring t s b i =
       clock = 0;
       now = instant 0;
       begun = false;
-      file = record { running = Idle; next = Never };
+      file = record { running = None; next = None };
     }
 
 -- Task 0 waits for a list of a kind.
@@ -117,8 +114,8 @@ pub record GroundCases : Type 0 where
   pub most_bolts_law : Limit (λ n. declaring 0 0 n 0) 16 17
   pub most_interrupts_law : Limit (λ n. declaring 0 0 0 n) 8 9
   -- At 2^40 a tick is refused with 15.
-  pub last_tick : ticked (begun_at (instant (2 ^ 40)) waits) ≡ plain_answer 15 Idle
-  pub instant_beyond : ticked (begun_at (instant (2 ^ 40 + 1)) waits) ≡ plain_answer 1 Idle
+  pub last_tick : ticked (begun_at (instant (2 ^ 40)) waits) ≡ plain_answer 15 None
+  pub instant_beyond : ticked (begun_at (instant (2 ^ 40 + 1)) waits) ≡ plain_answer 1 None
   pub clock : Limit (λ t. with_clock t waits) 86399999 86400000
   -- ---- semaphores and bolts
   pub value : Limit (λ v. with_locks (λ r. with_value r 1 v) waits) 65535 65536
@@ -128,15 +125,15 @@ pub record GroundCases : Type 0 where
   pub most_declared : Limit (λ p. with_task 1 (with_declared p) waits) 255 256
   pub least_current : Limit (λ p. with_task 1 (with_current p) waits) 1 0
   pub most_current : Limit (λ p. with_task 1 (with_current p) waits) 255 256
-  pub least_kept : Limit (λ p. with_task 0 (with_kept (Back p)) waits) 1 0
-  pub most_kept : Limit (λ p. with_task 0 (with_kept (Back p)) waits) 255 256
+  pub least_kept : Limit (λ p. with_task 0 (with_kept (Some p)) waits) 1 0
+  pub most_kept : Limit (λ p. with_task 0 (with_kept (Some p)) waits) 255 256
   -- ---- holds
   pub delayed : Limit (λ n. with_task 0 (with_hold (Delayed (instant n))) waits) (2 ^ 42) (2 ^ 42 + 1)
   -- ---- a terminated task
   pub dead_waits : Limit (second (wait_for Request 1 (0 ∷ []))) true false
   pub dead_suspended : Limit (second (with_hold Suspended)) true false
   pub dead_delayed : Limit (second (with_hold (Delayed (instant 9)))) true false
-  pub dead_kept : Limit (second (with_kept (Back 5))) true false
+  pub dead_kept : Limit (second (with_kept (Some 5))) true false
   -- ---- lists
   pub empty_list : Limit (waiting_for Request) (0 ∷ []) []
   pub five_numbers : Limit (waiting_for Request) (0 ∷ 1 ∷ 2 ∷ 3 ∷ []) (0 ∷ 1 ∷ 2 ∷ 3 ∷ 4 ∷ [])
@@ -148,25 +145,25 @@ pub record GroundCases : Type 0 where
   pub grantable_reserve : Limit (waiting_for Reserve) (0 ∷ []) (1 ∷ [])
   pub grantable_enter : Limit (waiting_for Enter) (0 ∷ []) (1 ∷ [])
   -- ---- a schedule
-  pub least_priority : Limit (scheduled soon Never Open 0) 1 0
-  pub most_priority_law : Limit (scheduled soon Never Open 0) 255 256
-  pub period : Limit (λ p. scheduled soon Never Open p 5) 1000000000 1000000001
-  pub until : Limit (λ t. scheduled soon Never (Until t) 1 5) 86399999 86400000
-  pub least_during : Limit (λ d. scheduled soon Never (During (duration d)) 1 5) 1 0
-  pub most_during : Limit (λ d. scheduled soon Never (During (duration d)) 1 5) 1000000000 1000000001
-  pub next : Limit (λ n. scheduled (set_for (instant n)) Never Open 0 5) (2 ^ 42) (2 ^ 42 + 1)
-  pub triggered_next : Limit (λ n. scheduled (set_off (instant n) (armed 0 (duration 0))) Never Open 0 5) (2 ^ 42) (2 ^ 42 + 1)
-  pub last : Limit (λ n. scheduled soon (At (instant n)) Open 1 5) (2 ^ 42) (2 ^ 42 + 1)
-  pub interrupt : Limit (λ i. scheduled (armed i (duration 0)) Never Open 0 5) 0 1
-  pub triggered_interrupt : Limit (λ i. scheduled (set_off (instant 9) (armed i (duration 0))) Never Open 0 5) 0 1
-  pub delay : Limit (λ d. scheduled (armed 0 (duration d)) Never Open 0 5) 1000000000 1000000001
+  pub least_priority : Limit (scheduled soon None Open 0) 1 0
+  pub most_priority_law : Limit (scheduled soon None Open 0) 255 256
+  pub period : Limit (λ p. scheduled soon None Open p 5) 1000000000 1000000001
+  pub until : Limit (λ t. scheduled soon None (Until t) 1 5) 86399999 86400000
+  pub least_during : Limit (λ d. scheduled soon None (During (duration d)) 1 5) 1 0
+  pub most_during : Limit (λ d. scheduled soon None (During (duration d)) 1 5) 1000000000 1000000001
+  pub next : Limit (λ n. scheduled (set_for (instant n)) None Open 0 5) (2 ^ 42) (2 ^ 42 + 1)
+  pub triggered_next : Limit (λ n. scheduled (set_off (instant n) (armed 0 (duration 0))) None Open 0 5) (2 ^ 42) (2 ^ 42 + 1)
+  pub last : Limit (λ n. scheduled soon (Some (instant n)) Open 1 5) (2 ^ 42) (2 ^ 42 + 1)
+  pub interrupt : Limit (λ i. scheduled (armed i (duration 0)) None Open 0 5) 0 1
+  pub triggered_interrupt : Limit (λ i. scheduled (set_off (instant 9) (armed i (duration 0))) None Open 0 5) 0 1
+  pub delay : Limit (λ d. scheduled (armed 0 (duration d)) None Open 0 5) 1000000000 1000000001
   -- ---- a continuation
   pub given : Limit (continuation soon) 255 256
-  pub given_none : ticked (continuation soon 0) ≡ quiet Idle
+  pub given_none : ticked (continuation soon 0) ≡ quiet None
   pub continued_next : Limit (λ n. continuation (set_for (instant n)) 5) (2 ^ 42) (2 ^ 42 + 1)
   pub continued_interrupt : Limit (λ i. continuation (armed i (duration 0)) 5) 0 1
   pub continued_delay : Limit (λ d. continuation (armed 0 (duration d)) 5) 1000000000 1000000001
   -- ---- beyond the counts nothing is looked at: a third task, a sixth semaphore, a third bolt
-  pub undeclared_task : ticked (with_task 2 (with_declared 256) waits) ≡ quiet Idle
-  pub undeclared_value : ticked (with_locks (λ r. with_value r 5 65536) waits) ≡ quiet Idle
-  pub undeclared_readers : ticked (with_locks (λ r. with_bolt r 2 (record { writer = false; readers = 65536 })) waits) ≡ quiet Idle
+  pub undeclared_task : ticked (with_task 2 (with_declared 256) waits) ≡ quiet None
+  pub undeclared_value : ticked (with_locks (λ r. with_value r 5 65536) waits) ≡ quiet None
+  pub undeclared_readers : ticked (with_locks (λ r. with_bolt r 2 (record { writer = false; readers = 65536 })) waits) ≡ quiet None

@@ -1,12 +1,10 @@
 -- Each refusal number from 2 on beside a neighbour that doesn't get it, by records of bytes. Proved in
 -- proofs/Numbered.antt.
-use Rattle.std.specs.Prelude.{◌≡◌, List, [], ◌∷◌, ◌++◌, map, ℕ, take, set}
+use Rattle.std.specs.Prelude.{None, Some, ◌≡◌, List, [], ◌∷◌, ◌++◌, map, ℕ, take, set}
 use Rattle.calendar.specs.Limits.{day_length}
 use Rattle.calendar.specs.Times.{instant}
-use Rattle.calendar.specs.declared.Moment.TheVariants.{Never, At}
 use Rattle.layout.specs.declared.Mark.TheVariants.{TE, TR}
 use Rattle.machine.specs.declared.State.{State}
-use Rattle.machine.specs.declared.Running.TheVariants.{Idle, Runs}
 use Rattle.machine.specs.State.{with_file, begun_at}
 use Rattle.machine.specs.Step.{step}
 use Rattle.machine.specs.Log.{final}
@@ -125,11 +123,11 @@ pub record NumberedCases : Type 0 where
   pub last_instant_law : numbers (at_instant 1099511627776) (one_tick ∷ activate 0 ∷ []) ≡ 15 ∷ 0 ∷ []
   pub one_before : numbers (at_instant 1099511627775) (one_tick ∷ []) ≡ 0 ∷ []
   -- 16: nobody on file, though task 0 runs, or an event that doesn't come; what the rules give.
-  pub nobody_on_file : numbers (with_file (record { running = Idle; next = Never }) (running [])) (one_tick ∷ [] ∷ [])
+  pub nobody_on_file : numbers (with_file (record { running = None; next = None }) (running [])) (one_tick ∷ [] ∷ [])
       ≡ 16 ∷ 16 ∷ []
-  pub event_on_file : numbers (with_file (record { running = Runs 0; next = At (instant 7) }) (running [])) (one_tick ∷ [])
+  pub event_on_file : numbers (with_file (record { running = Some 0; next = Some (instant 7) }) (running [])) (one_tick ∷ [])
       ≡ 16 ∷ []
-  pub right_on_file : numbers (with_file (record { running = Runs 0; next = Never }) (running [])) (one_tick ∷ []) ≡ 0 ∷ []
+  pub right_on_file : numbers (with_file (record { running = Some 0; next = None }) (running [])) (one_tick ∷ []) ≡ 0 ∷ []
   -- 17: a sleep with nothing to come, or with a start beyond 2^40; to a start at 2^40.
   pub nothing_comes : numbers (running []) (sleep ∷ []) ≡ 17 ∷ []
   pub comes_too_late : numbers (starts_next 1099511627776) (sleep ∷ []) ≡ 17 ∷ []

@@ -35,20 +35,14 @@ pub(crate) fn plain_call(
 pub(crate) fn start_call(mark: Mark, task: u8, priority: u8, start: StartCondition) -> Call
     ensures { result ≡ start_call mark task priority start }
 {
+    let plain = plain_call(mark, task, priority, 0, NO_LIST, start.first);
     let head = Head {
-        mark,
-        number: task,
-        priority,
-        len: 0,
         kind: start.kind,
         interrupt: start.interrupt,
         endkind: start.endkind,
-        first: start.first,
         period: start.period,
         endtime: start.endtime,
+        ..plain.head
     };
-    Call {
-        head,
-        list: NO_LIST,
-    }
+    Call { head, ..plain }
 }

@@ -1,4 +1,5 @@
-// Semaphores and bolts: REQUEST, RELEASE, TRY; RESERVE, FREE, ENTER, LEAVE. A list goes to the kernel as it is.
+// Semaphores and bolts: REQUEST, RELEASE, TRY; RESERVE, FREE, ENTER, LEAVE. A list goes to the kernel as it is,
+// with its length beside it and no slice for both: a length over 4 too is the kernel's to refuse.
 ghost use Rattle.std.specs.Prelude.{◌≡◌};
 ghost use Rattle.pearl.specs.Calls.{request_call, release_call, try_call, reserve_call, free_call, enter_call, leave_call};
 

@@ -9,55 +9,39 @@ ghost use Rattle.lines.specs.Lines.{longest_line};
 ghost use Rattle.script.specs.Records.{records};
 ghost use Rattle.script.specs.Script.{going_on};
 
-use feed::{keep, read_on};
+use feed::{Failure, fold};
 use kernel::Kernel;
-use script::Script;
-use script::run::run_from;
-use std::io;
+use script::{Script, run};
+use std::convert::Infallible;
 use wait_lines::text_at;
-
-// Tells on standard error what failed, and why.
-fn tell<P: Eprint>(rt: &P, what: &str, error: io::Error) {
-    let _ = eprintln!(rt; "rackwait: {what}: {error}");
-}
 
 // Carries the records of bytes out. The lines of their answers are left in the buffer and not printed.
 fn carry(script: Script, bytes: &[u8], out: &mut [u8]) -> Script
     requires { longest_line ≤ length out.old }
     ensures { result ≡ going_on (final day_length script.kernel.state (records bytes.now)) }
 {
-    let mut now = script;
-    let mut at = 0;
-    while at < bytes.len() {
-        let ran = run_from(now, bytes, at, out);
-        now = ran.script;
-        at = at + ran.read;
-    }
-    now
+    let Ok(carried) = run::carry(script, bytes, out, |_| Ok::<(), Infallible>(()));
+    carried
 }
 
-// Each turn carries out the records that a read has brought, and keeps the rest; the last one prints.
-fn main(rt: HostRuntime) {
-    let mut stdin = rt.stdin();
+// Carries out what each read brings, and prints the lines of those who wait then.
+fn tell_waits(rt: &HostRuntime) -> Result<(), Failure> {
     let mut input = [0u8; 65536];
     let mut output = [0u8; 65536];
-    let mut script = Script::begin(Kernel::fresh());
-    let mut held = 0;
-    for _ in 0..u64::MAX {
-        let fed = read_on(&mut stdin, &mut input, held);
-        if let Some(error) = fed.error {
-            tell(&rt, "standard input", error);
-            return;
-        }
-        let whole = fed.whole;
-        script = carry(script, &input[..whole], &mut output);
-        if !fed.more {
-            let n = text_at(script.kernel.state, &mut output, 0);
-            if let Err(error) = rt.write_all(&output[..n]) {
-                tell(&rt, "standard output", error);
-            }
-            return;
-        }
-        held = keep(&mut input, whole, fed.total);
+    let begun = Script::begin(Kernel::fresh());
+    let done = fold(&mut rt.stdin(), &mut input, begun, |script, bytes| {
+        Ok(carry(script, bytes, &mut output))
+    })?;
+    let Some(script) = done else {
+        return Ok(());
+    };
+    let n = text_at(script.kernel.state, &mut output, 0);
+    rt.write_all(&output[..n]).map_err(Failure::Output)
+}
+
+// What failed, and why, is told on standard error.
+fn main(rt: HostRuntime) {
+    if let Err(failure) = tell_waits(&rt) {
+        let _ = eprintln!(rt; "rackwait: {failure}");
     }
 }

@@ -5,7 +5,7 @@ pub mod StretchLaws
 pub mod UnusedLaws
 pub mod CleanLaws
 pub mod ShapeLaws
-pub mod TimesLaws
+pub mod NumberLaws
 pub mod ReaderLaws
 pub mod Theorems
 pub mod PositionLaws

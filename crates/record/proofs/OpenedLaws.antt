@@ -1,4 +1,5 @@
 -- The ways to open bytes.
+use Rattle.std.specs.Prelude.{Option, None, Ok, Some}
 use mathlib.Core.Path.{◌≡◌, refl, sym}
 use mathlib.Core.Bool.{Bool, true, false}
 use mathlib.Core.List.{List}
@@ -8,12 +9,9 @@ use lib.ListN.{length}
 use lib.Dec.{eqb}
 use borrow.Author.Tests.{eq-eqb, ne_eqb, eqb-true, eqb-false}
 use Rattle.layout.specs.declared.Mark.{Mark}
-use Rattle.layout.specs.declared.Marked.{Marked}
-use Rattle.layout.specs.declared.Marked.TheVariants.{Unknown, Known}
+use Rattle.layout.specs.Marks.{code, mark_of}
 use Rattle.layout.specs.declared.Head.{Head}
 use Rattle.layout.specs.declared.Call.{Call}
-use Rattle.record.specs.declared.Read.TheVariants.{Accepted}
-use Rattle.layout.specs.Marks.{code, mark_of}
 use Rattle.layout.specs.Fields.{record_length, letters, head_of, list_of, call_of, bytes_of, FourPlaces}
 use Rattle.record.specs.Reading.{refused, accepted, opened}
 use Rattle.layout.proofs.MarksLaws.{known, found_code}
@@ -30,20 +28,20 @@ module _ (s : List ℕ) where
   unfolding opened
   opened_length ne = rw (ne_eqb (length s) record_length ne)
 
-  pub opened_unknown : length s ≡ record_length → mark_of (letters s) ≡ Unknown → opened s ≡ refused 2
+  pub opened_unknown : length s ≡ record_length → mark_of (letters s) ≡ None → opened s ≡ refused 2
   unfolding opened
   opened_unknown l u = rw (eq-eqb (length s) record_length l, u)
 
-  pub opened_known : {m : Mark} → length s ≡ record_length → mark_of (letters s) ≡ Known m → opened s ≡ accepted (call_of m s)
+  pub opened_known : {m : Mark} → length s ≡ record_length → mark_of (letters s) ≡ Some m → opened s ≡ accepted (call_of m s)
   unfolding opened
   opened_known l k = rw (eq-eqb (length s) record_length l, k)
 
-  no_mark : mark_of (letters s) ≡ Unknown → (m : Mark) → letters s ≡ code m → ⊥
+  no_mark : mark_of (letters s) ≡ None → (m : Mark) → letters s ≡ code m → ⊥
   no_mark u m e = let k = known m e in let z : ◌≡◌ {A = ℕ} 0 1 = cc in omega arith
 
-  by_mark : length s ≡ record_length → (r : Marked) → mark_of (letters s) ≡ r → Opening s
-  by_mark l Unknown u = unmarked (no_mark u) (opened_unknown l u)
-  by_mark l (Known m) k = marked m l (found_code k) (opened_known l k)
+  by_mark : length s ≡ record_length → (r : Option Mark) → mark_of (letters s) ≡ r → Opening s
+  by_mark l None u = unmarked (no_mark u) (opened_unknown l u)
+  by_mark l (Some m) k = marked m l (found_code k) (opened_known l k)
 
   by_length : (b : Bool) → eqb (length s) record_length ≡ b → Opening s
   by_length true e = by_mark (eqb-true _ _ e) (mark_of (letters s)) refl
@@ -65,7 +63,7 @@ pub record Taken (s : List ℕ) (h : Head) : Type 0 where
   pub head : h ≡ head_of h.mark s
   pub list : (opened s).list ≡ list_of s
 
-pub taken : (s : List ℕ) (h : Head) → (opened s).answer ≡ Accepted h → Taken s h
+pub taken : (s : List ℕ) (h : Head) → (opened s).answer ≡ Ok h → Taken s h
 unfolding head_of
 taken s h a = by (opens s) where
   refusing : {n : ℕ} → opened s ≡ refused n → ⊥

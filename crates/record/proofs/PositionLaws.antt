@@ -84,7 +84,7 @@ module _ (s : List ℕ) (m : Mark) (i : ℕ) (long : length s ≡ record_length)
 
   pub not_formed : formed (call_of m s) ≡ false
   unfolding formed head_of
-  not_formed = by_fields m s (list_of s) (head_of m s) (long, (refl, refl)) (form m) ∙ rw not_clean
+  not_formed = by_fields m s (list_of s) (head_of m s) (refl, refl) (form m) ∙ rw not_clean
 
 pub three : (day : ℕ) (c : Call) → formed c ≡ false → refusal day c ≡ 3
 unfolding refusal shape

@@ -7,8 +7,6 @@ use native.Mathlib.Omega.{arith}
 use borrow.Author.Tests.{eqb-true, leb-true}
 use lib.Dec.{leb}
 use lib.ListN.{length}
-use types.Run.{OneOf, miss}
-use denote.Enum.Declared.{tag_of}
 use Rattle.layout.specs.declared.Mark.{Mark}
 use Rattle.layout.specs.declared.Head.{Head}
 use Rattle.layout.specs.declared.Call.{Call}
@@ -23,18 +21,17 @@ use Rattle.record.specs.Refusals.{most_value, Used, or_zero, clean_names, clean_
 use Rattle.facts.proofs.Bools.{both}
 use Rattle.record.proofs.StretchLaws.{one, two}
 use Rattle.record.proofs.UnusedLaws.{stretches_are_the_fields}
-use Rattle.layout.specs.contracts.Form as FormT
 
--- h and l are the fields of the 24 bytes s.
+-- h and l are the fields of the bytes s.
 abbrev pub FieldsOf : Mark → List ℕ → Head → List ℕ → Type 0
-FieldsOf m s h l = (length s ≡ record_length) × ((h ≡ head_of m s) × (l ≡ list_of s))
+FieldsOf m s h l = (h ≡ head_of m s) × (l ≡ list_of s)
 
 -- Refusal 3: the ranges hold, and the stretches of unused bytes are zero.
 module _ (m : Mark) (s l : List ℕ) (h : Head) (are : FieldsOf m s h l) where
   pub by_fields : (f : Form) → formed_as f (call_with h l) ≡ (zero_in s (unused (uses f h) h.len) && ranged f h)
   unfolding head_of
   by_fields f =
-      rw (are.1.0, are.1.1)
+      rw (are.0, are.1)
       (sym (and_assoc (clean_names (uses f (head_of m s)) (call_of m s)) (clean_start (uses f (head_of m s)) (head_of m s)) (ranged f (head_of m s)))
       ∙ ap (λ (z : Bool). z && ranged f (head_of m s)) (stretches_are_the_fields (uses f (head_of m s)) m s))
 
@@ -61,10 +58,6 @@ module _ (m : Mark) (s l : List ℕ) (h : Head) (are : FieldsOf m s h l) where
   pub time_of_day_law : {r : Bool} → r ≡ (all_zero (stretch s 2 12) && all_zero (stretch s 16 24)) → r ≡ (ranged TimeOfDay h && zero_in s (unused (uses TimeOfDay h) h.len))
   unfolding uses ranged used_bytes stretches grown
   time_of_day_law er = er ∙ two s 2 10 16 8
-
--- The forms without a list, by their places in the code's enum.
-abbrev listless : List ℕ
-listless = 0 ∷ 1 ∷ 2 ∷ 3 ∷ 4 ∷ 5 ∷ 6 ∷ 7 ∷ []
 
 -- What passes refusal 3 has no list longer than the longest.
 module _ (c : Call) where
@@ -94,17 +87,3 @@ module _ (c : Call) where
   pub formed_short : formed c ≡ true → c.head.len ≤ most_numbers
   unfolding formed
   formed_short t = short (form c.head.mark) t
-
-  -- The arm for every other form.
-  pub listed_else : (f : Form) → OneOf listless (tag_of FormT.the_type f) → true ≡ listed f c
-  unfolding listed
-  listed_else Bare k = refl
-  listed_else Number k = refl
-  listed_else Continuation k = refl
-  listed_else DeclaredPriority k = refl
-  listed_else Preset k = refl
-  listed_else TimeOfDay k = refl
-  listed_else Resumption k = refl
-  listed_else Activation k = refl
-  listed_else Numbers k = absurd (miss listless 8 tt k)
-  listed_else OneNumber k = absurd (miss listless 9 tt k)

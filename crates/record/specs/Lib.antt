@@ -1,5 +1,6 @@
 -- The record form's rules, in the order to read them.
 pub mod Refusals
+pub mod Numbers
 pub mod Stretches
 pub mod Reading
 pub mod Writing

@@ -1,9 +1,8 @@
 -- What reader and writer promise of each other, for every call and any bytes. Proved in proofs/Theorems.antt.
-use Rattle.std.specs.Prelude.{◌≡◌, Bool, true, not, ◌&&◌, List, [], ◌∷◌, ◌⊎◌, ◌↔◌, ℕ, suc, length, get_or, replicate}
+use Rattle.std.specs.Prelude.{Ok, ◌≡◌, Bool, true, not, ◌&&◌, List, [], ◌∷◌, ◌⊎◌, ◌↔◌, ℕ, suc, length, get_or, replicate}
 use Rattle.layout.specs.declared.Mark.{Mark}
 use Rattle.layout.specs.declared.Head.{Head}
 use Rattle.layout.specs.declared.Call.{Call}
-use Rattle.record.specs.declared.Read.TheVariants.{Accepted}
 use Rattle.layout.specs.Marks.{code}
 use Rattle.layout.specs.Fields.{record_length, byte, letters, head_of, call_of, bytes_of, FourPlaces, Octets}
 use Rattle.lists.specs.Lists.{names}
@@ -20,7 +19,7 @@ WrittenReadsBack =
 -- An accepted record, read and written, gives the same bytes.
 abbrev pub ReadWritesBack : Type 0
 ReadWritesBack =
-    (day : ℕ) (s : List ℕ) (h : Head) → Octets s → (reading day s).answer ≡ Accepted h
+    (day : ℕ) (s : List ℕ) (h : Head) → Octets s → (reading day s).answer ≡ Ok h
     → written day (call_with h (reading day s).list) ≡ record { number = 0; bytes = s }
 
 -- The writer's number is the one that the reader gives for the bytes of the call.

@@ -3,6 +3,7 @@
 
 pub mod kinds;
 pub mod reader;
+pub mod refusals;
 pub mod shape;
 pub mod times;
 pub mod writer;
@@ -19,20 +20,19 @@ pub const LAST_END_KIND: u8 = 2;
 
 use layout::{Bytes, Head, Numbers};
 
-// The reader's answer. The list stands beside it, in Reading.
-#[derive(Clone, Copy)]
-pub enum Read {
-    Refused(u8),
-    Accepted(Head),
-}
+// The reader's answer: the fields, or the number of a refusal. It is the document's number and no Refusal: `refused`
+// promises a reading of every number, and the theorems count with them.
+pub type Read = Result<Head, u8>;
 
+// The list stands beside the answer, so that a refusal has one too, of zeros: `refused`, refusal_in_the_list.
 #[derive(Clone, Copy)]
 pub struct Reading {
     pub answer: Read,
     pub list: Numbers,
 }
 
-// The writer's answer: 0 and the record, or a refusal and zero bytes.
+// The writer's answer: 0 and the record, or a refusal and zero bytes. A refusal has bytes too: `written`,
+// refused_keeps_its_bytes.
 #[derive(Clone, Copy)]
 pub struct Written {
     pub number: u8,

@@ -2,22 +2,24 @@
 ghost use Rattle.std.specs.Prelude.{◌≡◌, length};
 ghost use Rattle.calendar.specs.Limits.{day_length};
 ghost use Rattle.layout.specs.Fields.{record_length, head_of, list_of};
+ghost use Rattle.record.specs.Numbers.{refused_with};
 ghost use Rattle.record.specs.Refusals.{refusal};
 ghost use Rattle.record.specs.Reading.{number_of, call_with, refused, opened, reading};
 
+use crate::refusals::Refusal;
 use crate::shape::shape_at;
 use crate::times::times_of;
 use crate::{Read, Reading};
 use layout::fields::{head_at, letters_at, list_at};
 use layout::marks::mark_of;
-use layout::{Head, Marked, NO_LIST, Numbers, RECORD_LENGTH};
+use layout::{Bytes, Head, NO_LIST, Numbers};
 
 // A refusal hands back a list of zeros.
 pub fn refused(n: u8) -> Reading
     ensures { result ≡ refused n }
 {
     Reading {
-        answer: Read::Refused(n),
+        answer: Err(n),
         list: NO_LIST,
     }
 }
@@ -27,8 +29,22 @@ pub fn number_of(a: Read) -> u8
     ensures { result ≡ number_of a }
 {
     match a {
-        Read::Refused(n) => n,
-        Read::Accepted(_) => 0,
+        Err(n) => n,
+        Ok(_) => 0,
+    }
+}
+
+// The fields of 24 bytes, or refusal 2 where the mark is none.
+pub fn open_record(s: &Bytes) -> Reading
+    ensures { result ≡ opened s.now }
+{
+    let Some(mark) = mark_of(letters_at(s)) else {
+        return refused(Refusal::NoRecord.number());
+    };
+    let head = head_at(s, mark);
+    Reading {
+        answer: Ok(head),
+        list: list_at(s),
     }
 }
 
@@ -36,31 +52,20 @@ pub fn number_of(a: Read) -> u8
 pub fn open(s: &[u8]) -> Reading
     ensures { result ≡ opened s.now }
 {
-    if s.len() != RECORD_LENGTH {
-        return refused(2);
-    }
-    let found = mark_of(letters_at(s));
-    let Marked::Known(mark) = found else {
-        return refused(2);
-    };
-    let head = head_at(s, mark);
-    Reading {
-        answer: Read::Accepted(head),
-        list: list_at(s),
+    match <&Bytes>::try_from(s) {
+        Ok(record) => open_record(record),
+        Err(_) => refused(Refusal::NoRecord.number()),
     }
 }
 
-// 3, 4 or 6, or 0, of the fields of a record.
-pub(crate) fn refusal_at(s: &[u8], h: Head, list: Numbers) -> u8
-    requires s_len { length s.now ≡ record_length }
+// What refuses the fields of a record: 3, 4 or 6.
+#[tactic(auto, using(crate::proofs::NumberLaws::number_some, crate::proofs::ReaderLaws::shape_some))]
+pub(crate) fn refusal_at(s: &Bytes, h: Head, list: Numbers) -> Result<(), Refusal>
     requires h_value { h ≡ head_of h.mark s.now }
     requires list_value { list ≡ list_of s.now }
-    ensures { result ≡ refusal day_length (call_with h list) }
+    ensures { refused_with result ≡ refusal day_length (call_with h list) }
 {
-    let n = shape_at(s, h, list);
-    if n != 0 {
-        return n;
-    }
+    shape_at(s, h, list)?;
     times_of(h)
 }
 
@@ -68,15 +73,15 @@ pub(crate) fn refusal_at(s: &[u8], h: Head, list: Numbers) -> u8
 pub fn read(s: &[u8]) -> Reading
     ensures { result ≡ reading day_length s.now }
 {
-    let r = open(s);
-    let answer = r.answer;
-    let list = r.list;
-    let Read::Accepted(head) = answer else {
+    let Ok(record) = <&Bytes>::try_from(s) else {
+        return refused(Refusal::NoRecord.number());
+    };
+    let r = open_record(record);
+    let Ok(head) = r.answer else {
         return r;
     };
-    let n = refusal_at(s, head, list);
-    if n == 0 {
-        return r;
+    match refusal_at(record, head, r.list) {
+        Ok(()) => r,
+        Err(refusal) => refused(refusal.number()),
     }
-    refused(n)
 }

@@ -4,19 +4,20 @@ ghost use Rattle.std.specs.Prelude.{◌≡◌, true, false, ◌&&◌, ◌||◌, 
 ghost use Rattle.layout.specs.Fields.{record_length, head_of, list_of, most_numbers};
 ghost use Rattle.lists.specs.Lists.{all_zero, stretch};
 ghost use Rattle.record.specs.Refusals.{last_kind, last_plain_kind, last_end_kind, on_interrupt, at_time, after_duration, plain_use, start, going, formed, listed, shape};
+ghost use Rattle.record.specs.Numbers.{refused_with};
 ghost use Rattle.record.specs.Stretches.{start_bytes, used_start, stretches, unused, zero_in};
 ghost use Rattle.layout.specs.Marks.{form};
 ghost use Rattle.record.specs.Reading.{call_with};
 
 use crate::kinds::{has_first, is_on_interrupt};
+use crate::refusals::Refusal;
 use crate::{LAST_END_KIND, LAST_KIND, LAST_PLAIN_KIND, MOST_VALUE};
 use layout::marks::form_of;
-use layout::{Form, Head, MOST_NUMBERS, Numbers, RECORD_LENGTH};
+use layout::{Bytes, Form, Head, MOST_NUMBERS, Numbers, RECORD_LENGTH};
 use lists::{is_distinct, zero_between};
 
 // Whether the record is zero from a on.
-fn zero_from(s: &[u8], a: usize) -> bool
-    requires s_len { length s.now ≡ record_length }
+fn zero_from(s: &Bytes, a: usize) -> bool
     requires a_le_record_length { a ≤ record_length }
     ensures { result ≡ all_zero (stretch s.now a record_length) }
 {
@@ -24,8 +25,7 @@ fn zero_from(s: &[u8], a: usize) -> bool
 }
 
 // Whether the bytes behind the mark are zero, but for those from a up to b.
-fn zero_around(s: &[u8], a: usize, b: usize) -> bool
-    requires s_len { length s.now ≡ record_length }
+fn zero_around(s: &Bytes, a: usize, b: usize) -> bool
     requires le_a { (2 ≤ a) × (a ≤ b) × (b ≤ record_length) }
     ensures { result ≡ (all_zero (stretch s.now 2 a) && all_zero (stretch s.now b record_length)) }
 {
@@ -33,8 +33,8 @@ fn zero_around(s: &[u8], a: usize, b: usize) -> bool
 }
 
 // Whether all bytes behind the last number of a list are zero.
-fn zero_past(s: &[u8], len: u8) -> bool
-    requires s_len { length s.now ≡ record_length }
+#[tactic(auto, using(crate::proofs::CleanLaws::past_at, crate::proofs::CleanLaws::past_four))]
+fn zero_past(s: &Bytes, len: u8) -> bool
     requires len_le_most_numbers { len ≤ most_numbers }
     ensures { result ≡ all_zero (drop (5 + len) s.now) }
 {
@@ -48,8 +48,8 @@ fn zero_past(s: &[u8], len: u8) -> bool
 }
 
 // Whether a list's length is in range and the bytes are zero that its call doesn't use.
-fn is_list_formed(s: &[u8], len: u8) -> bool
-    requires { length s.now ≡ record_length }
+#[tactic(auto, using(crate::proofs::CleanLaws::with_list))]
+fn is_list_formed(s: &Bytes, len: u8) -> bool
     ensures { result ≡ (leb len most_numbers && zero_in s.now (unused (plain_use false false true false) len)) }
 {
     if MOST_NUMBERS < len {
@@ -59,8 +59,8 @@ fn is_list_formed(s: &[u8], len: u8) -> bool
 }
 
 // Whether the bytes behind the kind of a CONTINUE or RESUME are zero that it doesn't use.
-fn is_going_clean(s: &[u8], when: bool, first: bool) -> bool
-    requires { length s.now ≡ record_length }
+#[tactic(auto, using(crate::proofs::CleanLaws::going_when_first, crate::proofs::CleanLaws::going_first, crate::proofs::CleanLaws::going_when, crate::proofs::CleanLaws::going_neither))]
+fn is_going_clean(s: &Bytes, when: bool, first: bool) -> bool
     ensures { result ≡ zero_in s.now (stretches 10 (start_bytes when false first false false)) }
 {
     if first {
@@ -76,8 +76,8 @@ fn is_going_clean(s: &[u8], when: bool, first: bool) -> bool
 }
 
 // Whether a CONTINUE's kind is in range and the bytes are zero that it doesn't use.
-fn is_continuation_formed(s: &[u8], kind: u8) -> bool
-    requires { length s.now ≡ record_length }
+#[tactic(auto, using(crate::proofs::CleanLaws::continuation))]
+fn is_continuation_formed(s: &Bytes, kind: u8) -> bool
     ensures { result ≡ (leb kind last_plain_kind && zero_in s.now (unused (going true (at_time kind || after_duration kind) kind) 0)) }
 {
     (kind <= LAST_PLAIN_KIND)
@@ -86,8 +86,8 @@ fn is_continuation_formed(s: &[u8], kind: u8) -> bool
 }
 
 // The same of a RESUME, which names no task and has no priority.
-fn is_resumption_formed(s: &[u8], kind: u8) -> bool
-    requires { length s.now ≡ record_length }
+#[tactic(auto, using(crate::proofs::CleanLaws::resumption))]
+fn is_resumption_formed(s: &Bytes, kind: u8) -> bool
     ensures { result ≡ (leb kind last_plain_kind && zero_in s.now (unused (going false (eqb kind 0 || (at_time kind || after_duration kind)) kind) 0)) }
 {
     (kind <= LAST_PLAIN_KIND)
@@ -96,8 +96,8 @@ fn is_resumption_formed(s: &[u8], kind: u8) -> bool
 }
 
 // Whether the bytes behind the kind of a scheduled activation are zero that it doesn't use, but for its end's time.
-fn is_schedule_clean(s: &[u8], kind: u8) -> bool
-    requires { length s.now ≡ record_length }
+#[tactic(auto, using(crate::proofs::CleanLaws::with_at, crate::proofs::CleanLaws::with_after, crate::proofs::CleanLaws::with_when, crate::proofs::CleanLaws::with_when_after, crate::proofs::CleanLaws::with_all))]
+fn is_schedule_clean(s: &Bytes, kind: u8) -> bool
     ensures { result ≡ zero_in s.now (stretches 10 (start_bytes (on_interrupt kind) true (at_time kind || after_duration kind) true true)) }
 {
     match kind {
@@ -110,8 +110,8 @@ fn is_schedule_clean(s: &[u8], kind: u8) -> bool
 }
 
 // Whether the bytes behind the kind of an activation are zero that it doesn't use.
-fn is_start_clean(s: &[u8], kind: u8, endkind: u8) -> bool
-    requires { length s.now ≡ record_length }
+#[tactic(auto, using(crate::proofs::CleanLaws::unscheduled_end, crate::proofs::CleanLaws::unscheduled, crate::proofs::CleanLaws::with_end, crate::proofs::CleanLaws::without_end))]
+fn is_start_clean(s: &Bytes, kind: u8, endkind: u8) -> bool
     ensures { result ≡ zero_in s.now (stretches 10 (used_start (start kind endkind))) }
 {
     if kind == 0 {
@@ -127,8 +127,8 @@ fn is_start_clean(s: &[u8], kind: u8, endkind: u8) -> bool
 }
 
 // Whether an activation's kinds are in range and the bytes are zero that it doesn't use.
-fn is_activation_formed(s: &[u8], kind: u8, endkind: u8) -> bool
-    requires { length s.now ≡ record_length }
+#[tactic(auto, using(crate::proofs::CleanLaws::activation))]
+fn is_activation_formed(s: &Bytes, kind: u8, endkind: u8) -> bool
     ensures { result ≡ (leb kind last_kind && leb endkind last_end_kind && zero_in s.now (unused (start kind endkind) 0)) }
 {
     (kind <= LAST_KIND)
@@ -138,15 +138,12 @@ fn is_activation_formed(s: &[u8], kind: u8, endkind: u8) -> bool
 }
 
 // Whether the record passes refusal 3.
-pub(crate) fn is_formed(s: &[u8], h: Head, list: Numbers) -> bool
-    requires s_len { length s.now ≡ record_length }
+pub(crate) fn is_formed(s: &Bytes, h: Head, list: Numbers) -> bool
     requires h_value { h ≡ head_of h.mark s.now }
     requires list_value { list ≡ list_of s.now }
     ensures { result ≡ formed (call_with h list) }
 {
-    let mark = h.mark;
-    let f = form_of(mark);
-    match f {
+    match form_of(h.mark) {
         Form::Bare => zero_from(s, 2),
         Form::Number => zero_from(s, 3),
         Form::Continuation => is_continuation_formed(s, h.kind),
@@ -161,32 +158,32 @@ pub(crate) fn is_formed(s: &[u8], h: Head, list: Numbers) -> bool
 }
 
 // Whether the record passes refusal 4.
+#[tactic(auto, unfolding(crate::specs::Refusals::listed))]
 pub(crate) fn is_listed(h: Head, list: Numbers) -> bool
     requires { h.len ≤ most_numbers }
     ensures { result ≡ listed (form h.mark) (call_with h list) }
 {
-    let mark = h.mark;
-    let f = form_of(mark);
     let n = h.len as usize;
-    match f {
-        Form::Numbers => (1 <= n) & is_distinct(list, n),
+    match form_of(h.mark) {
+        Form::Numbers => (1 <= n) & is_distinct(&list[..n]),
         Form::OneNumber => n == 1,
         _ => true,
     }
 }
 
-// 3 or 4, or 0. Head and list are those of the record s: callers have them from open(s), or from the bytes of a call.
-pub fn shape_at(s: &[u8], h: Head, list: Numbers) -> u8
-    requires s_len { length s.now ≡ record_length }
+// Malformed or BadList, 3 or 4. Head and list are those of the record s: callers have them from open(s), or from the
+// bytes of a call.
+#[tactic(auto, using(crate::proofs::ShapeLaws::formed_short), unfolding(crate::specs::Refusals::shape))]
+pub fn shape_at(s: &Bytes, h: Head, list: Numbers) -> Result<(), Refusal>
     requires h_value { h ≡ head_of h.mark s.now }
     requires list_value { list ≡ list_of s.now }
-    ensures { result ≡ shape (call_with h list) }
+    ensures { refused_with result ≡ shape (call_with h list) }
 {
     if !is_formed(s, h, list) {
-        return 3;
+        return Err(Refusal::Malformed);
     }
     if !is_listed(h, list) {
-        return 4;
+        return Err(Refusal::BadList);
     }
-    0
+    Ok(())
 }

@@ -13,14 +13,11 @@ pub fn write(c: Call) -> Written
     ensures { result ≡ written day_length c }
 {
     let bytes = bytes_of(c);
-    let head = c.head;
-    let list = c.list;
-    let n = refusal_at(&bytes, head, list);
-    if n == 0 {
-        return Written { number: 0, bytes };
-    }
-    Written {
-        number: n,
-        bytes: [0; RECORD_LENGTH],
+    match refusal_at(&bytes, c.head, c.list) {
+        Ok(()) => Written { number: 0, bytes },
+        Err(refusal) => Written {
+            number: refusal.number(),
+            bytes: [0; RECORD_LENGTH],
+        },
     }
 }

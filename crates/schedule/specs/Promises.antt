@@ -1,11 +1,10 @@
 -- What a trigger and a due leave of a schedule, and when one comes due. Proved in proofs/Triggers.antt and
 -- proofs/Coming.antt.
-use Rattle.std.specs.Prelude.{◌≡◌, true, false, ℕ}
+use Rattle.std.specs.Prelude.{None, Some, ◌≡◌, true, false, ℕ}
 use Rattle.calendar.specs.Moments.{is_at}
 use Rattle.calendar.specs.Times.{plus}
 use Rattle.calendar.specs.Dues.{last_allowed, next_due}
 use Rattle.calendar.specs.declared.Instant.{Instant}
-use Rattle.calendar.specs.declared.Moment.TheVariants.{Never, At}
 use Rattle.schedule.specs.declared.Plan.TheVariants.{Armed, Triggered}
 use Rattle.schedule.specs.declared.Alarm.{Alarm}
 use Rattle.schedule.specs.declared.Schedule.{Schedule}
@@ -23,11 +22,11 @@ TriggerReplaces =
 
 -- What a due leaves of a schedule, by what the calendar says comes next.
 pub record AdvanceGoesOn : Type 0 where
-  pub next : (n m : Instant) (s : Schedule) → next_due s.period s.last n ≡ At m
+  pub next : (n m : Instant) (s : Schedule) → next_due s.period s.last n ≡ Some m
       → ((advance n s).alarm.plan ≡ s.alarm.plan) × ((advance n s).alarm.next ≡ m) × ((advance n s).last ≡ s.last)
-  pub armed : (n : Instant) (s : Schedule) → next_due s.period s.last n ≡ Never → listening s.alarm.plan ≡ true
+  pub armed : (n : Instant) (s : Schedule) → next_due s.period s.last n ≡ None → listening s.alarm.plan ≡ true
       → (advance n s).alarm.plan ≡ Armed
-  pub gone : (n : Instant) (s : Schedule) → next_due s.period s.last n ≡ Never → listening s.alarm.plan ≡ false
+  pub gone : (n : Instant) (s : Schedule) → next_due s.period s.last n ≡ None → listening s.alarm.plan ≡ false
       → advance n s ≡ no_schedule
 
 -- An alarm falls due at its next instant, and at no other.

@@ -12,36 +12,21 @@ impl Plan {
     pub fn is_pending(self) -> bool
         ensures { result ≡ pending self }
     {
-        match self {
-            Plan::None => false,
-            Plan::Clock => true,
-            Plan::Armed => false,
-            Plan::Triggered => true,
-        }
+        matches!(self, Plan::Clock | Plan::Triggered)
     }
 
     // A WHEN, set off or not.
     pub fn is_listening(self) -> bool
         ensures { result ≡ listening self }
     {
-        match self {
-            Plan::None => false,
-            Plan::Clock => false,
-            Plan::Armed => true,
-            Plan::Triggered => true,
-        }
+        matches!(self, Plan::Armed | Plan::Triggered)
     }
 
     // There is an alarm.
     pub fn is_planned(self) -> bool
         ensures { result ≡ planned self }
     {
-        match self {
-            Plan::None => false,
-            Plan::Clock => true,
-            Plan::Armed => true,
-            Plan::Triggered => true,
-        }
+        !matches!(self, Plan::None)
     }
 }
 
@@ -73,12 +58,7 @@ impl Alarm {
     fn set_for(n: Instant) -> Alarm
         ensures { result ≡ set_for n }
     {
-        Alarm {
-            plan: Plan::Clock,
-            interrupt: 0,
-            delay: Duration(0),
-            next: n,
-        }
+        Alarm::none().coming_at(Plan::Clock, n)
     }
 
     // Waits for an interrupt, and comes due a delay after it.
@@ -89,7 +69,7 @@ impl Alarm {
             plan: Plan::Armed,
             interrupt,
             delay,
-            next: Instant(0),
+            ..Alarm::none()
         }
     }
 
@@ -97,22 +77,14 @@ impl Alarm {
     pub fn falls_on(self, n: Instant) -> bool
         ensures { result ≡ falls n self }
     {
-        let plan = self.plan;
-        if plan.is_pending() {
-            return self.next.0 == n.0;
-        }
-        false
+        self.plan.is_pending() & (self.next == n)
     }
 
     // Whether it is a WHEN on interrupt i.
     pub fn listens_to(self, i: u8) -> bool
         ensures { result ≡ listens i self }
     {
-        let plan = self.plan;
-        if plan.is_listening() {
-            return self.interrupt == i;
-        }
-        false
+        self.plan.is_listening() & (self.interrupt == i)
     }
 
     pub(crate) fn coming_at(self, plan: Plan, n: Instant) -> Alarm
@@ -129,8 +101,7 @@ impl Alarm {
     pub fn rearmed(self) -> Alarm
         ensures { result ≡ rearmed self }
     {
-        let next = self.next;
-        self.coming_at(Plan::Armed, next)
+        self.coming_at(Plan::Armed, self.next)
     }
 
     // What a trigger at n sets off.
@@ -138,11 +109,11 @@ impl Alarm {
         requires { n.0 ≤ last_instant }
         ensures { (result ≡ set_off n self) × (result.next.0 ≤ most_instant) }
     {
-        let delay = self.delay;
-        self.coming_at(Plan::Triggered, n.plus(delay))
+        self.coming_at(Plan::Triggered, n.plus(self.delay))
     }
 
     // The alarm of a start of a kind at n: WHEN waits for its interrupt, AT, AFTER and ALL have their first due.
+    #[tactic(auto, unfolding(crate::specs::Alarms::alarm_of))]
     pub fn of_start(kind: u8, first: u32, interrupt: u8, clock: u32, n: Instant) -> Alarm
         requires { n.0 ≤ last_instant }
         ensures { (result ≡ alarm_of day_length clock n kind first interrupt) × (result.next.0 ≤ most_instant) }

@@ -7,16 +7,15 @@ use crate::{Alarm, Schedule};
 use calendar::{End, Instant, Moment, last_allowed, next_due};
 
 // The last allowed due, counted from the one to come.
+#[tactic(auto, unfolding(crate::specs::Schedules::last_of))]
 fn last_of(end: End, clock: u32, alarm: Alarm) -> Moment
     requires { alarm.next.0 ≤ most_instant }
     ensures { result ≡ last_of day_length clock end alarm }
 {
-    let plan = alarm.plan;
-    let next = alarm.next;
-    if plan.is_pending() {
-        return last_allowed(end, clock, next);
+    if alarm.plan.is_pending() {
+        return last_allowed(end, clock, alarm.next);
     }
-    Moment::Never
+    None
 }
 
 impl Schedule {
@@ -25,7 +24,7 @@ impl Schedule {
     {
         Schedule {
             alarm: Alarm::none(),
-            last: Moment::Never,
+            last: None,
             end: End::Open,
             period: 0,
             priority: 0,
@@ -39,22 +38,15 @@ impl Schedule {
     }
 
     // After a due at n.
+    #[tactic(auto, unfolding(crate::specs::Schedules::advance))]
     pub fn advance(self, n: Instant) -> Schedule
         requires { n.0 ≤ most_instant }
         ensures { result ≡ advance n self }
     {
-        let last = self.last;
-        let alarm = self.alarm;
-        let plan = alarm.plan;
-        let next = next_due(self.period, last, n);
-        match next {
-            Moment::At(m) => self.with_alarm(alarm.coming_at(plan, m)),
-            Moment::Never => {
-                if plan.is_listening() {
-                    return self.with_alarm(alarm.rearmed());
-                }
-                Schedule::none()
-            }
+        match next_due(self.period, self.last, n) {
+            Some(m) => self.with_alarm(self.alarm.coming_at(self.alarm.plan, m)),
+            None if self.alarm.plan.is_listening() => self.with_alarm(self.alarm.rearmed()),
+            None => Schedule::none(),
         }
     }
 
@@ -63,10 +55,9 @@ impl Schedule {
         requires { alarm.next.0 ≤ most_instant }
         ensures { result ≡ begin_with day_length clock alarm end period priority }
     {
-        let last = last_of(end, clock, alarm);
         Schedule {
             alarm,
-            last,
+            last: last_of(end, clock, alarm),
             end,
             period,
             priority,
@@ -78,8 +69,7 @@ impl Schedule {
         requires { n.0 ≤ last_instant }
         ensures { result ≡ triggered day_length clock n self }
     {
-        let alarm = self.alarm;
-        let end = self.end;
-        Schedule::begin_with(alarm.set_off(n), end, self.period, self.priority, clock)
+        let alarm = self.alarm.set_off(n);
+        Schedule::begin_with(alarm, self.end, self.period, self.priority, clock)
     }
 }

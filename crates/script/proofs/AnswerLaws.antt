@@ -1,4 +1,5 @@
 -- Every answer of the machine is in the code's types, so each has a line of at most the longest length.
+use Rattle.std.specs.Prelude.{None, Some}
 use mathlib.Core.Path.{◌≡◌}
 use mathlib.Core.Bool.{Bool, true}
 use mathlib.Core.List.{List, map}
@@ -19,7 +20,7 @@ use Rattle.task.specs.declared.Turn.{Turn}
 use Rattle.machine.specs.Calls.{change_of, trigger_in, interrupt_by, arrive, work_by}
 use Rattle.machine.specs.Sorts.{sort_of, runner_at}
 use Rattle.machine.specs.Refusals.{declared_by, declared_in}
-use Rattle.machine.specs.Running.{runner}
+use Rattle.machine.specs.Running.{runner, Running}
 use Rattle.machine.specs.Serving.{Served, grant_to}
 use Rattle.machine.specs.Sets.{Set, Granted, set_of, mark, members, each_set, no_sets}
 use Rattle.machine.specs.declared.Sets.{Sets}
@@ -30,8 +31,6 @@ use Rattle.machine.specs.declared.Change.{Change}
 use Rattle.machine.specs.declared.Sort.{Sort}
 use Rattle.machine.specs.declared.Sort.TheVariants.{Declaration, OneTask, TheRunner, ListAsked, ListGiven, AnInterrupt, EveryTask}
 use Rattle.machine.specs.declared.State.{State}
-use Rattle.machine.specs.declared.Running.{Running}
-use Rattle.machine.specs.declared.Running.TheVariants.{Idle, Runs}
 use Rattle.machine.proofs.Cases.{out_cases, step_cases}
 use Rattle.machine.proofs.Passed.{passed, tested}
 use Rattle.machine.proofs.Serving.{serve_keeps}
@@ -76,8 +75,8 @@ module _ (k : State) where
     sized_runner f = go (runner k) (runner_below k)
       where
         go : (r : Running) → Below k.counts.tasks r → Sized (changed k (runner_at r) (f (runner_at r))).sets
-        go Idle b = sized_one 0 (f 0) (omega arith)
-        go (Runs i) b = sized_one i (f i) (omega arith)
+        go None b = sized_one 0 (f 0) (omega arith)
+        go (Some i) b = sized_one i (f i) (omega arith)
 
     sized_interrupt : (day : ℕ) (m : Mark) (i : ℕ) → Sized (interrupt_by day m k i).sets
     unfolding interrupt_by trigger_in
@@ -101,8 +100,8 @@ module _ (k : State) where
     sized_work day c EveryTask e = sized_every _ _
 
     running_byte : (r : Running) → Below k.counts.tasks r → RunningByte r
-    running_byte Idle b = tt
-    running_byte (Runs i) b = omega arith
+    running_byte None b = tt
+    running_byte (Some i) b = omega arith
 
     in_finish : (w : Work) → Sized w.sets → InTypes (finish k w).answer
     unfolding finish
@@ -133,7 +132,7 @@ module _ (k : State) where
     in_out day c e =
         out_cases day k c (λ z. InTypes z.answer) (λ d. in_declared _) (λ d. in_finish _ (sized_work day c (sort_of c.head.mark) e))
 
-in_idle : (k : State) (n : ℕ) → n ≤ 16 → InTypes (answered k n Idle).answer
+in_idle : (k : State) (n : ℕ) → n ≤ 16 → InTypes (answered k n None).answer
 unfolding answered
 in_idle k n h =
     record {

@@ -1,4 +1,5 @@
 -- What holds at the head of the script's loop, and what a turn makes of it.
+use Rattle.std.specs.Prelude.{None}
 use mathlib.Core.Path.{◌≡◌, refl, sym, ◌∙◌}
 use mathlib.Core.Logic.{◌≢◌}
 use mathlib.Core.Bool.{Bool, true, false, ◌&&◌}
@@ -20,7 +21,6 @@ use Rattle.machine.specs.State.{begun_at}
 use Rattle.machine.specs.Step.{plain_answer, answered, step}
 use Rattle.machine.specs.Test.{kernel_refusal}
 use Rattle.machine.specs.declared.State.{State}
-use Rattle.machine.specs.declared.Running.TheVariants.{Idle}
 use Rattle.machine.specs.declared.Stepped.{Stepped}
 use Rattle.machine.proofs.NextEvent.{next_is_next}
 use Rattle.machine.proofs.Filing.{taken_next}
@@ -141,11 +141,11 @@ module _ {bytes before : List ℕ} {start : State} {number : ℕ} {buffer : List
         }
 
     -- A kernel turned away stays.
-    pub refused : number ≢ 0 → Wrote buffer fill (line (plain_answer number Idle)) buffer' fill' → fill' ≤ fill + longest_line → length buffer' ≡ length buffer
+    pub refused : number ≢ 0 → Wrote buffer fill (line (plain_answer number None)) buffer' fill' → fill' ≤ fill + longest_line → length buffer' ≡ length buffer
         → Going bytes before start number buffer' k to fill'
     unfolding answered
     refused o w n b =
-        turned (record { state = k; answer = plain_answer number Idle }) (step_away day_length k (part bytes at to) g.tested o) (rw (ne_eqb number 0 o) w) n b
+        turned (record { state = k; answer = plain_answer number None }) (step_away day_length k (part bytes at to) g.tested o) (rw (ne_eqb number 0 o) w) n b
         g.tables g.tested
 
     module _ (o : number ≡ 0) where

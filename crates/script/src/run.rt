@@ -1,11 +1,13 @@
 // The script's loop: one record after the other, each with its line.
-ghost use Rattle.std.specs.Prelude.{◌≡◌, ◌+◌, ◌≤◌, ◌<◌, min, length};
+ghost use Rattle.std.specs.Prelude.{◌≡◌, IfOk, ◌+◌, ◌≤◌, ◌<◌, min, length};
 ghost use Rattle.calendar.specs.Limits.{day_length};
 ghost use Rattle.layout.specs.Fields.{record_length};
+ghost use Rattle.machine.specs.Log.{final};
 ghost use Rattle.lines.specs.Buffers.{Wrote};
 ghost use Rattle.lines.specs.Lines.{longest_line};
 ghost use Rattle.script.specs.Printed.{shown};
-ghost use Rattle.script.specs.Script.{Runs, GetsOn};
+ghost use Rattle.script.specs.Records.{records};
+ghost use Rattle.script.specs.Script.{going_on, Runs, GetsOn};
 
 use crate::{Script, Stand};
 use calendar::Duration;
@@ -15,7 +17,7 @@ use kernel_values::answers::{begun_at, plain_answer};
 use kernel_values::ticks::{is_quiet, is_tick};
 use layout::RECORD_LENGTH;
 use lines::line_at;
-use machine::{Answer, Running};
+use machine::Answer;
 
 pub const LONGEST_LINE: usize = 63;
 
@@ -59,24 +61,22 @@ pub fn run(script: Script, bytes: &[u8], out: &mut [u8]) -> Ran
     ensures { Runs day_length script bytes.now out.old out.new result }
 {
     let mut k = script.kernel.state;
-    let refusal = kernel_refusal(k);
+    let refused = kernel_refusal(k);
     let mut at = 0;
     let mut fill = 0;
+    // Chunks of the bytes would be no plainer: where the room ends, at is what has been read.
     while (at < bytes.len()) & (LONGEST_LINE <= out.len() - fill) {
         let to = end_of(at, bytes.len());
         let rec = &bytes[at..to];
         at = to;
-        if refusal != 0 {
-            fill = line_at(plain_answer(refusal, Running::Idle), out, fill);
+        if let Err(refusal) = refused {
+            fill = line_at(plain_answer(refusal.number(), None), out, fill);
             continue;
         }
-        let now = k.now;
-        let file = k.file;
-        let next = file.next;
         let tick = is_tick(rec);
-        if tick & is_quiet(now, next) {
-            let r = file.running;
-            k = begun_at(k, now.plus(Duration(1)));
+        if tick & is_quiet(k.now, k.file.next) {
+            let r = k.file.running;
+            k = begun_at(k, k.now.plus(Duration(1)));
             fill = line_at(plain_answer(0, r), out, fill);
             continue;
         }
@@ -85,10 +85,9 @@ pub fn run(script: Script, bytes: &[u8], out: &mut [u8]) -> Ran
         k = z.state;
         fill = line_if((a.number != 0) | k.begun, a, out, fill);
     }
-    let kernel = Kernel { state: k };
     Ran {
         script: Script {
-            kernel,
+            kernel: Kernel { state: k },
             stands: Stand::GoingOn,
         },
         read: at,
@@ -104,4 +103,28 @@ pub fn run_from(script: Script, bytes: &[u8], at: usize, out: &mut [u8]) -> Ran
     ensures { GetsOn script bytes.now at out.old out.new result }
 {
     run(script, &bytes[at..], out)
+}
+
+// Carries the records of bytes out, and hands their lines to write, a buffer full at a time. It ends with the first time
+// that they could not be written.
+pub fn carry<E, W: FnMut(&[u8]) -> Result<(), E>>(
+    script: Script,
+    bytes: &[u8],
+    out: &mut [u8],
+    mut write: W,
+) -> Result<Script, E>
+    requires callable { W.IsAlwaysCallable write }
+    requires longest_line_in_bounds { longest_line ≤ length out.old }
+    ensures { IfOk result (λ p. p ≡ going_on (final day_length script.kernel.state (records bytes.now))) }
+{
+    let mut now = script;
+    let mut at = 0;
+    // No iterator would be plainer: how far a run gets is what it says itself.
+    while at < bytes.len() {
+        let ran = run_from(now, bytes, at, out);
+        now = ran.script;
+        at += ran.read;
+        write(&out[..ran.written])?;
+    }
+    Ok(now)
 }

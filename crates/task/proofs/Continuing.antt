@@ -1,4 +1,5 @@
 -- What a continuation does to its task when it comes due, when it first comes due, and what leaves it alone.
+use Rattle.std.specs.Prelude.{is_some, None, Option, Some}
 use mathlib.Core.Path.{◌≡◌, refl, ◌∙◌}
 use mathlib.Core.Bool.{Bool, true, false, and-false}
 use Prim.Native.Nat.{ℕ, ◌+◌}
@@ -13,10 +14,8 @@ use Rattle.schedule.specs.Alarms.{falls, listens}
 use Rattle.schedule.specs.Schedules.{advance}
 use Rattle.task.specs.declared.Hold.{Hold}
 use Rattle.task.specs.declared.Hold.TheVariants.{Unheld, Suspended, Delayed}
-use Rattle.task.specs.declared.Kept.{Kept}
-use Rattle.task.specs.declared.Kept.TheVariants.{Empty, Back}
 use Rattle.task.specs.declared.Task.{Task}
-use Rattle.task.specs.State.{unheld, is_kept, rest_ok, with_current, with_hold, with_schedule, with_continuation}
+use Rattle.task.specs.State.{unheld, rest_ok, with_current, with_hold, with_schedule, with_continuation}
 use Rattle.task.specs.Continuations.{goes_on, dropped, spent, continued, continue_at, called_by}
 use Rattle.task.specs.Turns.{due_if, due_turn, end_if, prevent_turn, suspend_turn, go_on_turn, delay_turn, delay_ends, wake, fall_turn, tick_turn, start_turn}
 use Rattle.task.proofs.Dues.{continued_cases, spent_any}
@@ -73,7 +72,7 @@ pub leaves : (t : Task) → Leaves t (continued t)
 leaves t = continued_cases (Leaves t) t (λ e. leaves_spent t t (has t)) (λ e. leaves_spent t (goes_on t.given t) (has _))
 
 pub rest_unheld : (t : Task) → rest_ok t ≡ true → t.alive ≡ false → unheld t.hold ≡ true
-rest_unheld t r a = (rest_facts t.alive (is_kept t.kept) (waiting t.wait) (unheld t.hold) r a).2
+rest_unheld t r a = (rest_facts t.alive (is_some t.kept) (waiting t.wait) (unheld t.hold) r a).2
 
 pub comes_due_law : ComesDue
 comes_due_law =
@@ -124,16 +123,16 @@ on_interrupt_law =
 
 -- ---- what leaves it alone
 
-due_same : (a : Bool) (k : Kept) (p : ℕ) (t : Task) → SameContinuation t (due_if a k p t).task
+due_same : (a : Bool) (k : Option ℕ) (p : ℕ) (t : Task) → SameContinuation t (due_if a k p t).task
 unfolding due_if
 due_same false k p t = has (due_if false k p t).task
-due_same true Empty p t = has (due_if true Empty p t).task
-due_same true (Back q) p t = has (due_if true (Back q) p t).task
+due_same true None p t = has (due_if true None p t).task
+due_same true (Some q) p t = has (due_if true (Some q) p t).task
 
-end_same : (k : Kept) (t : Task) → SameContinuation t (end_if k t).task
+end_same : (k : Option ℕ) (t : Task) → SameContinuation t (end_if k t).task
 unfolding end_if
-end_same Empty t = has (end_if Empty t).task
-end_same (Back p) t = has (end_if (Back p) t).task
+end_same None t = has (end_if None t).task
+end_same (Some p) t = has (end_if (Some p) t).task
 
 -- What falls on n is a due of the task with its schedule advanced, of some priority.
 pub fall_cases : (P : Task → Type 0) (n : Instant) (t : Task)

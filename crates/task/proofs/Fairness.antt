@@ -1,4 +1,5 @@
 -- One task's turn is fair: its starts and ends balance, its losses are those of the rule, and a wait goes on or ends.
+use Rattle.std.specs.Prelude.{is_some, None, Option, Some}
 use mathlib.Core.Path.{◌≡◌, refl, ◌∙◌}
 use mathlib.Core.Bool.{Bool, true, false, not, ◌&&◌, ◌||◌}
 use Prim.Native.Nat.{ℕ}
@@ -11,11 +12,9 @@ use Rattle.schedule.specs.declared.Schedule.{Schedule}
 use Rattle.schedule.specs.Alarms.{falls, listens, set_off}
 use Rattle.schedule.specs.Schedules.{advance, triggered}
 use Rattle.task.specs.declared.Hold.TheVariants.{Suspended, Delayed}
-use Rattle.task.specs.declared.Kept.{Kept}
-use Rattle.task.specs.declared.Kept.TheVariants.{Empty, Back}
 use Rattle.task.specs.declared.Task.{Task}
 use Rattle.task.specs.declared.Turn.{Turn}
-use Rattle.task.specs.State.{unheld, is_kept, rest_ok, with_hold, with_schedule, with_continuation}
+use Rattle.task.specs.State.{unheld, rest_ok, with_hold, with_schedule, with_continuation}
 use Rattle.task.specs.Continuations.{goes_on, with_next, continued, continue_at, called_by}
 use Rattle.task.specs.Promises.{Fair, TurnsAreFair}
 use Rattle.task.proofs.Dues.{continued_cases, spent_any}
@@ -53,10 +52,10 @@ fair_after p t t' u h f =
 
 -- ---- due and end
 
-fair_due_if : (a : Bool) (k : Kept) (p : ℕ) (t : Task) → t.alive ≡ a → t.kept ≡ k → rest_ok t ≡ true → Fair false t (due_if a k p t)
+fair_due_if : (a : Bool) (k : Option ℕ) (p : ℕ) (t : Task) → t.alive ≡ a → t.kept ≡ k → rest_ok t ≡ true → Fair false t (due_if a k p t)
 unfolding due_if
 fair_due_if false k p t ea ek r =
-    let q = rest_facts t.alive (is_kept t.kept) (waiting t.wait) (unheld t.hold) r ea in
+    let q = rest_facts t.alive (is_some t.kept) (waiting t.wait) (unheld t.hold) r ea in
     record {
       starts = rw q.0;
       ends = rw ea;
@@ -65,19 +64,19 @@ fair_due_if false k p t ea ek r =
       waits = rw q.1;
       wants = λ e. contra e refl;
     }
-fair_due_if true Empty p t ea ek r =
+fair_due_if true None p t ea ek r =
     record { starts = rw ek; ends = rw ea; lost = rw ek; granted = refl; waits = simp tests; wants = λ e. (refl, refl) }
-fair_due_if true (Back q) p t ea ek r =
+fair_due_if true (Some q) p t ea ek r =
     record { starts = rw ek; ends = rw ea; lost = rw (ek, ea); granted = refl; waits = simp tests; wants = λ e. (refl, refl) }
 
 pub fair_due : (p : ℕ) (t : Task) → rest_ok t ≡ true → Fair false t (due_turn p t)
 fair_due p t r = fair_due_if t.alive t.kept p t refl refl r
 
-fair_end_if : (k : Kept) (t : Task) → t.kept ≡ k → t.alive ≡ true → Fair false t (end_if k t)
+fair_end_if : (k : Option ℕ) (t : Task) → t.kept ≡ k → t.alive ≡ true → Fair false t (end_if k t)
 unfolding end_if
-fair_end_if Empty t e a =
+fair_end_if None t e a =
     record { starts = rw e; ends = rw a; lost = rw e; granted = refl; waits = simp tests; wants = λ z. contra z refl }
-fair_end_if (Back p) t e a =
+fair_end_if (Some p) t e a =
     record { starts = rw e; ends = rw a; lost = rw e; granted = refl; waits = simp tests; wants = λ z. contra z refl }
 
 pub fair_end : (t : Task) → t.alive ≡ true → Fair false t (end_turn t)
@@ -127,7 +126,7 @@ pub rests_on : (t t' : Task) → Rests t t' → rest_ok t ≡ true → rest_ok t
 rests_on t t' h r =
     rw (h.like.alive, h.like.kept, h.like.wait)
     (by_bool t.alive (λ a. rw a) (λ a.
-    let q = rest_facts t.alive (is_kept t.kept) (waiting t.wait) (unheld t.hold) r a in rw (a, q.0, q.1, h.holds q.2)))
+    let q = rest_facts t.alive (is_some t.kept) (waiting t.wait) (unheld t.hold) r a in rw (a, q.0, q.1, h.holds q.2)))
 
 rests_then : (t u v : Task) → Rests t u → Rests u v → Rests t v
 rests_then t u v h k = record { like = like_then t u v h.like k.like; holds = λ e. k.holds (h.holds e) }

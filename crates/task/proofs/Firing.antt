@@ -1,4 +1,5 @@
 -- Ticks and triggers: a continuation that comes due in them, with a start that may come in the same turn.
+use Rattle.std.specs.Prelude.{None, Option, Some}
 use mathlib.Core.Path.{◌≡◌, refl, sym, ap, ◌∙◌}
 use mathlib.Core.Bool.{Bool, true, false, or-false}
 use Prim.Native.Nat.{ℕ}
@@ -8,8 +9,6 @@ use Rattle.schedule.specs.declared.Alarm.{Alarm}
 use Rattle.schedule.specs.Alarms.{listening, falls, listens, set_off}
 use Rattle.schedule.specs.Schedules.{advance}
 use Rattle.task.specs.declared.Hold.TheVariants.{Unheld}
-use Rattle.task.specs.declared.Kept.{Kept}
-use Rattle.task.specs.declared.Kept.TheVariants.{Empty, Back}
 use Rattle.task.specs.declared.Task.{Task}
 use Rattle.task.specs.State.{unheld, rest_ok, with_hold, with_schedule}
 use Rattle.task.specs.Continuations.{with_next, continued, continue_at}
@@ -21,11 +20,11 @@ use Rattle.task.proofs.Continuing.{goes, leaves, else, rest_unheld, at_due, at_i
 -- ---- a start that comes with it
 
 -- Hold and priority of a living task stay.
-pub due_holds : (t u : Task) (a : Bool) (k : Kept) (p : ℕ) → a ≡ true → SameHold t u → SameHold t (due_if a k p u).task
+pub due_holds : (t u : Task) (a : Bool) (k : Option ℕ) (p : ℕ) → a ≡ true → SameHold t u → SameHold t (due_if a k p u).task
 unfolding due_if
 due_holds t u false k p a h = contra a refl
-due_holds t u true Empty p a h = record { hold = h.hold; current = h.current }
-due_holds t u true (Back q) p a h = record { hold = h.hold; current = h.current }
+due_holds t u true None p a h = record { hold = h.hold; current = h.current }
+due_holds t u true (Some q) p a h = record { hold = h.hold; current = h.current }
 
 pub fall_holds : (t u : Task) (n : Instant) → u.alive ≡ true → SameHold t u → SameHold t (fall_turn n u).task
 fall_holds t u n a h =
@@ -38,11 +37,11 @@ start_holds t day clock n i a =
     (record { hold = refl; current = refl })
 
 -- An unheld task stays unheld, started or not.
-due_unheld : (a : Bool) (k : Kept) (p : ℕ) (t : Task) → t.hold ≡ Unheld → (due_if a k p t).task.hold ≡ Unheld
+due_unheld : (a : Bool) (k : Option ℕ) (p : ℕ) (t : Task) → t.hold ≡ Unheld → (due_if a k p t).task.hold ≡ Unheld
 unfolding due_if
 due_unheld false k p t e = refl
-due_unheld true Empty p t e = e
-due_unheld true (Back q) p t e = e
+due_unheld true None p t e = e
+due_unheld true (Some q) p t e = e
 
 fall_unheld : (n : Instant) (t : Task) → t.hold ≡ Unheld → (fall_turn n t).task.hold ≡ Unheld
 fall_unheld n t h =

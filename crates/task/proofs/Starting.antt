@@ -1,4 +1,5 @@
 -- What a start takes, turn by turn, and that a schedule keeps its priority.
+use Rattle.std.specs.Prelude.{is_some, None, Option, Some}
 use mathlib.Core.Path.{◌≡◌, refl, sym, ap, subst, ◌∙◌}
 use mathlib.Core.Bool.{Bool, true, false, not, ◌&&◌, ◌||◌}
 use Prim.Native.Nat.{ℕ, ◌+◌}
@@ -7,8 +8,7 @@ use borrow.Author.Tests.{eq-eqb, ne_eqb}
 use native.Mathlib.Omega.{arith}
 use Rattle.calendar.specs.Dues.{next_due}
 use Rattle.calendar.specs.declared.Instant.{Instant}
-use Rattle.calendar.specs.declared.Moment.{Moment}
-use Rattle.calendar.specs.declared.Moment.TheVariants.{Never, At}
+use Rattle.calendar.specs.Moments.{Moment}
 use Rattle.facts.proofs.Bools.{by_bool, by_eq, contra}
 use Rattle.schedule.specs.declared.Alarm.{Alarm}
 use Rattle.schedule.specs.declared.Schedule.{Schedule}
@@ -16,11 +16,9 @@ use Rattle.schedule.specs.Alarms.{planned, listening, falls, listens, set_off}
 use Rattle.schedule.specs.Schedules.{advanced, advance, triggered}
 use Rattle.schedule.proofs.Coming.{falls_at_next}
 use Rattle.task.specs.declared.Hold.TheVariants.{Unheld, Suspended}
-use Rattle.task.specs.declared.Kept.{Kept}
-use Rattle.task.specs.declared.Kept.TheVariants.{Empty, Back}
 use Rattle.task.specs.declared.Marks.{Marks}
 use Rattle.task.specs.declared.Task.{Task}
-use Rattle.task.specs.State.{is_kept, with_hold, with_schedule, with_continuation}
+use Rattle.task.specs.State.{with_hold, with_schedule, with_continuation}
 use Rattle.task.specs.Continuations.{with_next, continue_at, called_by}
 use Rattle.task.specs.Turns.{unmarked, due_if, end_if, end_turn, prevent_turn, suspend_turn, go_on_turn, delay_turn, delay_ends, wake, fall_turn, tick_turn, plan_turn, start_turn, trigger_turn}
 use Rattle.task.specs.Starting.{Clear, Takes, TakesIn, MarkedAs, Plans, TurnsTake, TurnsMark, LivingGoesOn, SchedulesKeep}
@@ -114,7 +112,7 @@ takes_same t w m u s x =
     let e = priority_of s in
     record {
       made = λ a b. h.made a b ∙ e;
-      kept = λ a b d. h.kept a b d ∙ ap Back e;
+      kept = λ a b d. h.kept a b d ∙ ap Some e;
       lost = h.lost;
       back = h.back;
       again = h.again;
@@ -124,7 +122,7 @@ takes_same t w m u s x =
       declared = h.declared;
     }
 
-takes_due_if : (a : Bool) (k : Kept) (p : ℕ) (t : Task) → TakesIn p t (due_if a k p t)
+takes_due_if : (a : Bool) (k : Option ℕ) (p : ℕ) (t : Task) → TakesIn p t (due_if a k p t)
 unfolding due_if
 takes_due_if false k p t =
     record {
@@ -138,7 +136,7 @@ takes_due_if false k p t =
       stays = λ a b d. contra refl a;
       declared = refl;
     }
-takes_due_if true Empty p t =
+takes_due_if true None p t =
     record {
       made = λ a b. contra b refl;
       kept = λ a b d. refl;
@@ -150,7 +148,7 @@ takes_due_if true Empty p t =
       stays = λ a b d. contra refl a;
       declared = refl;
     }
-takes_due_if true (Back q) p t =
+takes_due_if true (Some q) p t =
     record {
       made = λ a b. contra b refl;
       kept = λ a b d. contra refl d;
@@ -163,12 +161,12 @@ takes_due_if true (Back q) p t =
       declared = refl;
     }
 
-same_back : (k : Kept) (p q : ℕ) → k ≡ Back p → k ≡ Back q → p ≡ q
+same_back : (k : Option ℕ) (p q : ℕ) → k ≡ Some p → k ≡ Some q → p ≡ q
 same_back k p q e f = cc
 
-takes_end_if : (k : Kept) (p : ℕ) (t : Task) → t.kept ≡ k → TakesIn p t (end_if k t)
+takes_end_if : (k : Option ℕ) (p : ℕ) (t : Task) → t.kept ≡ k → TakesIn p t (end_if k t)
 unfolding end_if
-takes_end_if Empty p t e =
+takes_end_if None p t e =
     record {
       made = λ a b. contra a refl;
       kept = λ a b d. contra a refl;
@@ -180,7 +178,7 @@ takes_end_if Empty p t e =
       stays = λ a b d. contra refl b;
       declared = refl;
     }
-takes_end_if (Back x) p t e =
+takes_end_if (Some x) p t e =
     record {
       made = λ a b. contra a refl;
       kept = λ a b d. contra a refl;
@@ -193,9 +191,9 @@ takes_end_if (Back x) p t e =
       declared = refl;
     }
 
-none_kept : (k : Kept) → is_kept k ≡ false → Empty ≡ k
-none_kept Empty e = refl
-none_kept (Back p) e = contra refl e
+none_kept : (k : Option ℕ) → is_some k ≡ false → None ≡ k
+none_kept None e = refl
+none_kept (Some p) e = contra refl e
 
 takes_prevent : (p : ℕ) (t : Task) → TakesIn p t (prevent_turn t)
 unfolding prevent_turn
@@ -266,16 +264,16 @@ marked_same d e t u m s h =
       is_started = h.is_started ∙ rw (s.alive, s.kept);
     }
 
-marked_due : (a : Bool) (k : Kept) (p : ℕ) (t : Task) → t.alive ≡ a → MarkedAs true false t (due_if a k p t).marks
+marked_due : (a : Bool) (k : Option ℕ) (p : ℕ) (t : Task) → t.alive ≡ a → MarkedAs true false t (due_if a k p t).marks
 unfolding due_if
 marked_due false k p t e = record { is_due = refl; is_ended = refl; is_started = rw e }
-marked_due true Empty p t e = record { is_due = refl; is_ended = refl; is_started = rw e }
-marked_due true (Back q) p t e = record { is_due = refl; is_ended = refl; is_started = rw e }
+marked_due true None p t e = record { is_due = refl; is_ended = refl; is_started = rw e }
+marked_due true (Some q) p t e = record { is_due = refl; is_ended = refl; is_started = rw e }
 
-marked_end : (k : Kept) (t : Task) → t.kept ≡ k → MarkedAs false true t (end_if k t).marks
+marked_end : (k : Option ℕ) (t : Task) → t.kept ≡ k → MarkedAs false true t (end_if k t).marks
 unfolding end_if
-marked_end Empty t e = record { is_due = refl; is_ended = refl; is_started = rw e }
-marked_end (Back p) t e = record { is_due = refl; is_ended = refl; is_started = rw e }
+marked_end None t e = record { is_due = refl; is_ended = refl; is_started = rw e }
+marked_end (Some p) t e = record { is_due = refl; is_ended = refl; is_started = rw e }
 
 marked_prevent : (t : Task) → MarkedAs false false t (prevent_turn t).marks
 unfolding prevent_turn
@@ -352,20 +350,20 @@ living_goes_on =
 
 -- ---- schedules
 
-due_plan : (a : Bool) (k : Kept) (p : ℕ) (t : Task) → (due_if a k p t).task.schedule ≡ t.schedule
+due_plan : (a : Bool) (k : Option ℕ) (p : ℕ) (t : Task) → (due_if a k p t).task.schedule ≡ t.schedule
 unfolding due_if
 due_plan false k p t = refl
-due_plan true Empty p t = refl
-due_plan true (Back q) p t = refl
+due_plan true None p t = refl
+due_plan true (Some q) p t = refl
 
-end_plan : (k : Kept) (t : Task) → (end_if k t).task.schedule ≡ t.schedule
+end_plan : (k : Option ℕ) (t : Task) → (end_if k t).task.schedule ≡ t.schedule
 unfolding end_if
-end_plan Empty t = refl
-end_plan (Back p) t = refl
+end_plan None t = refl
+end_plan (Some p) t = refl
 
 advanced_plans : (m : Moment) (s : Schedule) → planned (advanced m s).alarm.plan ≡ true → (advanced m s).priority ≡ s.priority
-advanced_plans (At n) s = λ e. refl
-advanced_plans Never s = by_bool (listening s.alarm.plan) (λ l. rw l (λ e. refl)) (λ l. rw l (λ e. contra e refl))
+advanced_plans (Some n) s = λ e. refl
+advanced_plans None s = by_bool (listening s.alarm.plan) (λ l. rw l (λ e. refl)) (λ l. rw l (λ e. contra e refl))
 
 advance_plans : (n : Instant) (s : Schedule) → planned (advance n s).alarm.plan ≡ true → (advance n s).priority ≡ s.priority
 unfolding advance

@@ -1,4 +1,5 @@
 -- A turn begins no wait: who waits after it waited before, on the same list.
+use Rattle.std.specs.Prelude.{None, Option, Some}
 use mathlib.Core.Path.{◌≡◌, refl, ◌∙◌}
 use mathlib.Core.Bool.{Bool, true, false}
 use Prim.Native.Nat.{ℕ}
@@ -10,8 +11,6 @@ use Rattle.schedule.specs.declared.Schedule.{Schedule}
 use Rattle.schedule.specs.Alarms.{falls, listens}
 use Rattle.schedule.specs.Schedules.{advance, triggered}
 use Rattle.task.specs.declared.Hold.TheVariants.{Suspended}
-use Rattle.task.specs.declared.Kept.{Kept}
-use Rattle.task.specs.declared.Kept.TheVariants.{Empty, Back}
 use Rattle.task.specs.declared.Task.{Task}
 use Rattle.task.specs.State.{with_hold, with_schedule}
 use Rattle.task.specs.Turns.{due_if, due_turn, end_if, end_turn, prevent_turn, suspend_turn, go_on_turn, delay_turn, wake, fall_turn, tick_turn, plan_turn, start_turn, trigger_turn, go_on_later_turn, rest_turn}
@@ -27,16 +26,16 @@ NoNewWait t u = waiting u.wait ≡ true → SameWait t u
 stays : (t : Task) → NoNewWait t t
 stays t w = (refl, refl, refl)
 
-due_waits : (b : Bool) (k : Kept) (p : ℕ) (t : Task) → NoNewWait t (due_if b k p t).task
+due_waits : (b : Bool) (k : Option ℕ) (p : ℕ) (t : Task) → NoNewWait t (due_if b k p t).task
 unfolding due_if
 due_waits false k p t w = contra w refl
-due_waits true Empty p t w = (refl, refl, refl)
-due_waits true (Back q) p t w = stays t w
+due_waits true None p t w = (refl, refl, refl)
+due_waits true (Some q) p t w = stays t w
 
-end_waits : (k : Kept) (t : Task) → NoNewWait t (end_if k t).task
+end_waits : (k : Option ℕ) (t : Task) → NoNewWait t (end_if k t).task
 unfolding end_if
-end_waits Empty t w = contra w refl
-end_waits (Back p) t w = contra w refl
+end_waits None t w = contra w refl
+end_waits (Some p) t w = contra w refl
 
 fall_waits : (n : Instant) (t : Task) → NoNewWait t (fall_turn n t).task
 unfolding fall_turn
@@ -98,11 +97,11 @@ module _ (t : Task) where
 
 -- ---- a tick ends no wait
 
-due_keeps : (b : Bool) (k : Kept) (p : ℕ) (t : Task) → b ≡ true → SameWait t (due_if b k p t).task
+due_keeps : (b : Bool) (k : Option ℕ) (p : ℕ) (t : Task) → b ≡ true → SameWait t (due_if b k p t).task
 unfolding due_if
 due_keeps false k p t e = contra e refl
-due_keeps true Empty p t e = (refl, refl, refl)
-due_keeps true (Back q) p t e = (refl, refl, refl)
+due_keeps true None p t e = (refl, refl, refl)
+due_keeps true (Some q) p t e = (refl, refl, refl)
 
 fall_keeps : (n : Instant) (t : Task) → t.alive ≡ true → SameWait t (fall_turn n t).task
 unfolding fall_turn

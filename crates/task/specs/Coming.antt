@@ -1,18 +1,16 @@
 -- What comes to a task without another call, and when.
-use Rattle.std.specs.Prelude.{Bool, List, [], ◌∷◌}
-use Rattle.calendar.specs.Moments.{has_at}
+use Rattle.std.specs.Prelude.{None, Some, Bool, List, [], ◌∷◌}
+use Rattle.calendar.specs.Moments.{has_at, Moment}
 use Rattle.calendar.specs.declared.Instant.{Instant}
-use Rattle.calendar.specs.declared.Moment.{Moment}
-use Rattle.calendar.specs.declared.Moment.TheVariants.{Never, At}
 use Rattle.schedule.specs.Coming.{next_of}
 use Rattle.task.specs.declared.Hold.{Hold}
 use Rattle.task.specs.declared.Hold.TheVariants.{Unheld, Suspended, Delayed}
 use Rattle.task.specs.declared.Task.{Task}
 
 abbrev pub delay_end : Hold → Moment
-delay_end Unheld = Never
-delay_end Suspended = Never
-delay_end (Delayed n) = At n
+delay_end Unheld = None
+delay_end Suspended = None
+delay_end (Delayed n) = Some n
 
 -- All that pends for a task.
 abbrev pub pendings : Task → List Moment

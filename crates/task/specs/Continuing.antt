@@ -1,10 +1,9 @@
 -- What CONTINUE and RESUME on a schedule keep of their promise to one task (request 1). Proved in
 -- proofs/Continuing.antt and proofs/Firing.antt.
-use Rattle.std.specs.Prelude.{◌≡◌, ◌≢◌, Bool, true, false, ◌||◌, ℕ}
+use Rattle.std.specs.Prelude.{None, Some, ◌≡◌, ◌≢◌, Bool, true, false, ◌||◌, ℕ}
 use Rattle.calendar.specs.Times.{plus}
 use Rattle.calendar.specs.declared.Instant.{Instant}
 use Rattle.calendar.specs.declared.Duration.{Duration}
-use Rattle.calendar.specs.declared.Moment.TheVariants.{Never, At}
 use Rattle.schedule.specs.declared.Plan.{Plan}
 use Rattle.schedule.specs.declared.Plan.TheVariants.{Armed}
 use Rattle.schedule.specs.declared.Alarm.{Alarm}
@@ -89,7 +88,7 @@ pub record Later : Type 0 where
   -- it pends at f, and nothing else changes
   pub pends : (n f : Instant) (p : ℕ) (r : Bool) (t : Task) → f.0 ≢ n.0
       → go_on_later_turn n (set_for f) p r t ≡ unmarked (with_continuation (set_for f) p r t)
-  pub next : (f : Instant) → next_of (set_for f) ≡ At f
+  pub next : (f : Instant) → next_of (set_for f) ≡ Some f
   -- where f is n, it comes due in the call
   pub due : (n f : Instant) (p : ℕ) (r : Bool) (t : Task) → f.0 ≡ n.0
       → go_on_later_turn n (set_for f) p r t ≡ unmarked (continued (with_continuation (set_for f) p r t))
@@ -99,13 +98,13 @@ pub record OnInterrupt : Type 0 where
   -- it waits, with no due, and nothing else changes
   pub waits : (n : Instant) (i : ℕ) (d : Duration) (p : ℕ) (r : Bool) (t : Task)
       → go_on_later_turn n (armed i d) p r t ≡ unmarked (with_continuation (armed i d) p r t)
-  pub none : (i : ℕ) (d : Duration) → next_of (armed i d) ≡ Never
+  pub none : (i : ℕ) (d : Duration) → next_of (armed i d) ≡ None
   -- a trigger of another interrupt is none of its
   pub other : (n : Instant) (i : ℕ) (t : Task) → listens i t.continuation ≡ false → called_by n i t ≡ t
   -- its own at n: it pends a delay later
   pub pends : (n : Instant) (i : ℕ) (t : Task) → listens i t.continuation ≡ true → t.continuation.delay.0 ≢ 0
       → called_by n i t ≡ with_next (set_off n t.continuation) t
-  pub next : (n : Instant) (a : Alarm) → next_of (set_off n a) ≡ At (plus n a.delay)
+  pub next : (n : Instant) (a : Alarm) → next_of (set_off n a) ≡ Some (plus n a.delay)
   -- where the delay is 0, it comes due in the call
   pub due : (n : Instant) (i : ℕ) (t : Task) → listens i t.continuation ≡ true → t.continuation.delay.0 ≡ 0
       → called_by n i t ≡ continued (with_next (set_off n t.continuation) t)

@@ -1,5 +1,5 @@
 -- What one task's turn keeps. Proved in proofs/Fairness.antt and proofs/Laws.antt.
-use Rattle.std.specs.Prelude.{◌≡◌, Bool, true, false, not, ◌&&◌, ◌||◌, ℕ, ◌+◌}
+use Rattle.std.specs.Prelude.{is_some, ◌≡◌, Bool, true, false, not, ◌&&◌, ◌||◌, ℕ, ◌+◌}
 use Rattle.calendar.specs.declared.Instant.{Instant}
 use Rattle.lock.specs.Locks.{bit, waiting}
 use Rattle.schedule.specs.Alarms.{falls}
@@ -7,18 +7,18 @@ use Rattle.schedule.specs.declared.Alarm.{Alarm}
 use Rattle.schedule.specs.declared.Schedule.{Schedule}
 use Rattle.task.specs.declared.Task.{Task}
 use Rattle.task.specs.declared.Turn.{Turn}
-use Rattle.task.specs.State.{is_kept, rest_ok, wanted}
+use Rattle.task.specs.State.{rest_ok, wanted}
 use Rattle.task.specs.Coming.{comes}
 use Rattle.task.specs.Turns.{unmarked, delay_ends, due_turn, end_turn, prevent_turn, suspend_turn, go_on_turn, delay_turn, tick_turn, plan_turn, trigger_turn, go_on_later_turn, rest_turn}
 
 -- A turn is fair; p says whether it is that of a PREVENT.
 pub record Fair (p : Bool) (t : Task) (u : Turn) : Type 0 where
   -- what was kept back and what falls due is made, lost or kept back
-  pub starts : bit (is_kept t.kept) + bit u.marks.due ≡ bit u.marks.started + bit u.marks.lost + bit (is_kept u.task.kept)
+  pub starts : bit (is_some t.kept) + bit u.marks.due ≡ bit u.marks.started + bit u.marks.lost + bit (is_some u.task.kept)
   -- what was alive and what starts has ended or is alive
   pub ends : bit t.alive + bit u.marks.started ≡ bit u.marks.ended + bit u.task.alive
   -- a loss has one of two causes, and each of them is a loss
-  pub lost : u.marks.lost ≡ (is_kept t.kept && ((u.marks.due && t.alive) || p))
+  pub lost : u.marks.lost ≡ (is_some t.kept && ((u.marks.due && t.alive) || p))
   -- and none grants
   pub granted : u.marks.granted ≡ false
   -- a wait goes on, with its list, until the task ends

@@ -1,5 +1,5 @@
 -- The priority that a start takes, and what it finds and leaves (document 01, "The step"). Proved in proofs/Starting.antt.
-use Rattle.std.specs.Prelude.{◌≡◌, Bool, true, false, not, ◌&&◌, ◌||◌, ℕ, eqb}
+use Rattle.std.specs.Prelude.{is_some, None, Some, ◌≡◌, Bool, true, false, not, ◌&&◌, ◌||◌, ℕ, eqb}
 use Rattle.calendar.specs.Moments.{is_at}
 use Rattle.calendar.specs.declared.Instant.{Instant}
 use Rattle.lock.specs.declared.Wait.TheVariants.{Nothing}
@@ -8,11 +8,9 @@ use Rattle.schedule.specs.Coming.{next_of}
 use Rattle.schedule.specs.declared.Alarm.{Alarm}
 use Rattle.schedule.specs.declared.Schedule.{Schedule}
 use Rattle.task.specs.declared.Hold.TheVariants.{Unheld}
-use Rattle.task.specs.declared.Kept.TheVariants.{Empty, Back}
 use Rattle.task.specs.declared.Marks.{Marks}
 use Rattle.task.specs.declared.Task.{Task}
 use Rattle.task.specs.declared.Turn.{Turn}
-use Rattle.task.specs.State.{is_kept}
 use Rattle.task.specs.Continuing.{SameHold}
 use Rattle.task.specs.Turns.{due_turn, end_turn, prevent_turn, suspend_turn, go_on_turn, delay_turn, tick_turn, plan_turn, trigger_turn, go_on_later_turn, rest_turn}
 
@@ -23,18 +21,18 @@ pub record Clear (alive : Bool) (u : Task) : Type 0 where
   pub lives : u.alive ≡ alive
   pub hold : u.hold ≡ Unheld
   pub wait : u.wait ≡ Nothing
-  pub kept : u.kept ≡ Empty
+  pub kept : u.kept ≡ None
 
 -- The marks m make u of the task t; a start that comes due with them has the priority p.
 pub record Takes (p : ℕ) (t : Task) (m : Marks) (u : Task) : Type 0 where
   -- made, it has that priority
   pub made : m.due ≡ true → m.started ≡ true → u.current ≡ p
   -- neither made nor lost, it is kept back with it
-  pub kept : m.due ≡ true → m.started ≡ false → m.lost ≡ false → u.kept ≡ Back p
+  pub kept : m.due ≡ true → m.started ≡ false → m.lost ≡ false → u.kept ≡ Some p
   -- lost, it leaves the one kept back as it was
   pub lost : m.due ≡ true → m.lost ≡ true → u.kept ≡ t.kept
   -- after an end the one kept back starts, with its own
-  pub back : (q : ℕ) → m.ended ≡ true → t.kept ≡ Back q → (m.started ≡ true) × (u.current ≡ q)
+  pub back : (q : ℕ) → m.ended ≡ true → t.kept ≡ Some q → (m.started ≡ true) × (u.current ≡ q)
   -- after an end without a start the task has the declared one again
   pub again : m.ended ≡ true → m.started ≡ false → u.current ≡ t.declared
   -- what a start and an end leave
@@ -50,7 +48,7 @@ pub record Takes (p : ℕ) (t : Task) (m : Marks) (u : Task) : Type 0 where
 pub record MarkedAs (due ended : Bool) (t : Task) (m : Marks) : Type 0 where
   pub is_due : m.due ≡ due
   pub is_ended : m.ended ≡ ended
-  pub is_started : m.started ≡ ((due && not t.alive) || (ended && is_kept t.kept))
+  pub is_started : m.started ≡ ((due && not t.alive) || (ended && is_some t.kept))
 
 abbrev pub TakesIn : ℕ → Task → Turn → Type 0
 TakesIn p t x = Takes p t x.marks x.task

@@ -1,5 +1,5 @@
 -- One task as document 01 has it, and the task with one part changed.
-use Rattle.std.specs.Prelude.{Bool, true, false, not, ◌&&◌, ◌||◌, List, [], ℕ, take}
+use Rattle.std.specs.Prelude.{is_some, None, Option, Some, Bool, true, false, not, ◌&&◌, ◌||◌, List, [], ℕ, take}
 use Rattle.lock.specs.declared.Wait.{Wait}
 use Rattle.lock.specs.declared.Wait.TheVariants.{Nothing}
 use Rattle.lock.specs.Locks.{waiting}
@@ -9,8 +9,6 @@ use Rattle.schedule.specs.Alarms.{no_alarm}
 use Rattle.schedule.specs.Schedules.{no_schedule}
 use Rattle.task.specs.declared.Hold.{Hold}
 use Rattle.task.specs.declared.Hold.TheVariants.{Unheld, Suspended, Delayed}
-use Rattle.task.specs.declared.Kept.{Kept}
-use Rattle.task.specs.declared.Kept.TheVariants.{Empty, Back}
 use Rattle.task.specs.declared.Task.{Task}
 
 -- What stands at a place that no table has.
@@ -20,7 +18,7 @@ no_task =
       declared = 0;
       current = 0;
       alive = false;
-      kept = Empty;
+      kept = None;
       wait = Nothing;
       len = 0;
       list = [];
@@ -35,17 +33,11 @@ no_task =
 
 abbrev pub unheld : Hold → Bool
 unheld Unheld = true
-unheld Suspended = false
-unheld (Delayed n) = false
+unheld h = false
 
 abbrev pub suspended : Hold → Bool
-suspended Unheld = false
 suspended Suspended = true
-suspended (Delayed n) = false
-
-abbrev pub is_kept : Kept → Bool
-is_kept Empty = false
-is_kept (Back p) = true
+suspended h = false
 
 -- Could run if nobody more urgent could.
 abbrev pub runnable : Task → Bool
@@ -53,7 +45,7 @@ runnable t = t.alive && unheld t.hold && not (waiting t.wait)
 
 -- A terminated task waits for nothing, is unheld and has no start kept back.
 abbrev pub rest_ok : Task → Bool
-rest_ok t = t.alive || (not (is_kept t.kept) && not (waiting t.wait) && unheld t.hold)
+rest_ok t = t.alive || (not (is_some t.kept) && not (waiting t.wait) && unheld t.hold)
 
 -- The numbers that a waiting task's list names.
 abbrev pub wanted : Task → List ℕ
@@ -62,125 +54,27 @@ wanted t = take t.len t.list
 -- ---- a task with one part changed
 
 abbrev pub with_current : ℕ → Task → Task
-with_current p t =
-    record {
-      declared = t.declared;
-      current = p;
-      alive = t.alive;
-      kept = t.kept;
-      wait = t.wait;
-      len = t.len;
-      list = t.list;
-      given = t.given;
-      resumed = t.resumed;
-      hold = t.hold;
-      schedule = t.schedule;
-      continuation = t.continuation;
-    }
+with_current p t = record t { current = p }
 
 abbrev pub with_alive : Bool → Task → Task
-with_alive b t =
-    record {
-      declared = t.declared;
-      current = t.current;
-      alive = b;
-      kept = t.kept;
-      wait = t.wait;
-      len = t.len;
-      list = t.list;
-      given = t.given;
-      resumed = t.resumed;
-      hold = t.hold;
-      schedule = t.schedule;
-      continuation = t.continuation;
-    }
+with_alive b t = record t { alive = b }
 
-abbrev pub with_kept : Kept → Task → Task
-with_kept k t =
-    record {
-      declared = t.declared;
-      current = t.current;
-      alive = t.alive;
-      kept = k;
-      wait = t.wait;
-      len = t.len;
-      list = t.list;
-      given = t.given;
-      resumed = t.resumed;
-      hold = t.hold;
-      schedule = t.schedule;
-      continuation = t.continuation;
-    }
+abbrev pub with_kept : Option ℕ → Task → Task
+with_kept k t = record t { kept = k }
 
 abbrev pub with_hold : Hold → Task → Task
-with_hold h t =
-    record {
-      declared = t.declared;
-      current = t.current;
-      alive = t.alive;
-      kept = t.kept;
-      wait = t.wait;
-      len = t.len;
-      list = t.list;
-      given = t.given;
-      resumed = t.resumed;
-      hold = h;
-      schedule = t.schedule;
-      continuation = t.continuation;
-    }
+with_hold h t = record t { hold = h }
 
 abbrev pub with_schedule : Schedule → Task → Task
-with_schedule s t =
-    record {
-      declared = t.declared;
-      current = t.current;
-      alive = t.alive;
-      kept = t.kept;
-      wait = t.wait;
-      len = t.len;
-      list = t.list;
-      given = t.given;
-      resumed = t.resumed;
-      hold = t.hold;
-      schedule = s;
-      continuation = t.continuation;
-    }
+with_schedule s t = record t { schedule = s }
 
 -- A continuation: its alarm, the priority that it gives, and whether a RESUME made it.
 abbrev pub with_continuation : Alarm → ℕ → Bool → Task → Task
-with_continuation a p r t =
-    record {
-      declared = t.declared;
-      current = t.current;
-      alive = t.alive;
-      kept = t.kept;
-      wait = t.wait;
-      len = t.len;
-      list = t.list;
-      given = p;
-      resumed = r;
-      hold = t.hold;
-      schedule = t.schedule;
-      continuation = a;
-    }
+with_continuation a p r t = record t { given = p; resumed = r; continuation = a }
 
 -- A wait takes the whole list of the call.
 abbrev pub wait_for : Wait → ℕ → List ℕ → Task → Task
-wait_for w n l t =
-    record {
-      declared = t.declared;
-      current = t.current;
-      alive = t.alive;
-      kept = t.kept;
-      wait = w;
-      len = n;
-      list = l;
-      given = t.given;
-      resumed = t.resumed;
-      hold = t.hold;
-      schedule = t.schedule;
-      continuation = t.continuation;
-    }
+wait_for w n l t = record t { wait = w; len = n; list = l }
 
 -- Waits for nothing; its list is not looked at any more.
 abbrev pub wait_over : Task → Task

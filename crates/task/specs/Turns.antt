@@ -1,5 +1,5 @@
 -- One task's turn: what a due, an end, a tick or a call does to it, and which sets have it (document 01, "The step").
-use Rattle.std.specs.Prelude.{Bool, true, false, cond, ℕ}
+use Rattle.std.specs.Prelude.{is_some, None, Option, Some, Bool, true, false, cond, ℕ}
 use Rattle.calendar.specs.Moments.{is_at}
 use Rattle.calendar.specs.declared.Instant.{Instant}
 use Rattle.schedule.specs.declared.Alarm.{Alarm}
@@ -8,11 +8,9 @@ use Rattle.schedule.specs.Alarms.{falls, listens}
 use Rattle.schedule.specs.Schedules.{no_schedule, advance, triggered}
 use Rattle.task.specs.declared.Hold.{Hold}
 use Rattle.task.specs.declared.Hold.TheVariants.{Unheld, Suspended, Delayed}
-use Rattle.task.specs.declared.Kept.{Kept}
-use Rattle.task.specs.declared.Kept.TheVariants.{Empty, Back}
 use Rattle.task.specs.declared.Task.{Task}
 use Rattle.task.specs.declared.Turn.{Turn}
-use Rattle.task.specs.State.{is_kept, with_current, with_alive, with_kept, with_hold, with_schedule, with_continuation, wait_over}
+use Rattle.task.specs.State.{with_current, with_alive, with_kept, with_hold, with_schedule, with_continuation, wait_over}
 use Rattle.task.specs.Coming.{delay_end}
 use Rattle.task.specs.Continuations.{goes_on, dropped, continue_at, called_by}
 
@@ -26,7 +24,7 @@ unmarked t = marked false false false false t
 
 -- Unheld, waiting for nothing, with no start kept back.
 abbrev pub cleared : Task → Task
-cleared t = with_hold Unheld (with_kept Empty (wait_over t))
+cleared t = with_hold Unheld (with_kept None (wait_over t))
 
 -- A task that starts with priority p.
 abbrev pub started : ℕ → Task → Task
@@ -38,18 +36,18 @@ terminated t = with_alive false (with_current t.declared (cleared t))
 
 -- ---- due and end
 
-unfoldable pub due_if : Bool → Kept → ℕ → Task → Turn
+unfoldable pub due_if : Bool → Option ℕ → ℕ → Task → Turn
 due_if false kept p t = marked true true false false (started p t)
-due_if true Empty p t = marked true false false false (with_kept (Back p) t)
-due_if true (Back q) p t = marked true false false true t
+due_if true None p t = marked true false false false (with_kept (Some p) t)
+due_if true (Some q) p t = marked true false false true t
 
 -- A start with priority p falls due: it is made, kept back or lost.
 abbrev pub due_turn : ℕ → Task → Turn
 due_turn p t = due_if t.alive t.kept p t
 
-unfoldable pub end_if : Kept → Task → Turn
-end_if Empty t = marked false false true false (terminated t)
-end_if (Back p) t = marked false true true false (started p t)
+unfoldable pub end_if : Option ℕ → Task → Turn
+end_if None t = marked false false true false (terminated t)
+end_if (Some p) t = marked false true true false (started p t)
 
 -- TERMINATE, and the end of the running task. A start kept back starts.
 abbrev pub end_turn : Task → Turn
@@ -57,7 +55,7 @@ end_turn t = end_if t.kept t
 
 -- PREVENT removes schedule, continuation and the start kept back, which is lost.
 unfoldable pub prevent_turn : Task → Turn
-prevent_turn t = marked false false false (is_kept t.kept) (dropped (with_schedule no_schedule (with_kept Empty t)))
+prevent_turn t = marked false false false (is_some t.kept) (dropped (with_schedule no_schedule (with_kept None t)))
 
 -- ---- holds
 

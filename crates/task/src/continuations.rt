@@ -2,7 +2,7 @@
 ghost use Rattle.std.specs.Prelude.{◌≡◌, ◌≤◌};
 ghost use Rattle.calendar.specs.Limits.{last_instant};
 ghost use Rattle.task.specs.State.{with_continuation};
-ghost use Rattle.task.specs.Continuations.{or_else, goes_on, with_next, dropped, spent, continued, continue_at, called_by};
+ghost use Rattle.task.specs.Continuations.{or_else, goes_on, dropped, spent, continued, continue_at, called_by};
 
 use crate::{Hold, Task};
 use calendar::Instant;
@@ -27,15 +27,6 @@ impl Task {
         }
     }
 
-    fn with_next(self, continuation: Alarm) -> Task
-        ensures { result ≡ with_next continuation self }
-    {
-        Task {
-            continuation,
-            ..self
-        }
-    }
-
     // Without a continuation.
     pub(crate) fn dropped(self) -> Task
         ensures { result ≡ dropped self }
@@ -47,57 +38,61 @@ impl Task {
     pub(crate) fn goes_on(self, given: u8) -> Task
         ensures { result ≡ goes_on given self }
     {
-        let current = or_else(given, self.current);
-        let hold = Hold::Unheld;
         Task {
-            current,
-            hold,
+            current: or_else(given, self.current),
+            hold: Hold::Unheld,
             ..self
         }
     }
 
     // What a due leaves: a CONTINUE's WHEN waits for its interrupt again, all others are gone.
+    #[tactic(auto, unfolding(crate::specs::Continuations::spent))]
     fn spent(self) -> Task
         ensures { result ≡ spent self }
     {
-        let alarm = self.continuation;
-        let plan = alarm.plan;
-        if plan.is_listening() & !self.resumed {
-            return self.with_next(alarm.rearmed());
+        if self.continuation.plan.is_listening() & !self.resumed {
+            return Task {
+                continuation: self.continuation.rearmed(),
+                ..self
+            };
         }
         self.dropped()
     }
 
     // The continuation comes due: a held task goes on, with any other nothing happens.
+    #[tactic(auto, unfolding(crate::specs::Continuations::continued))]
     fn continued(self) -> Task
         ensures { result ≡ continued self }
     {
-        let hold = self.hold;
-        if hold.is_unheld() {
+        if self.hold.is_unheld() {
             return self.spent();
         }
         self.goes_on(self.given).spent()
     }
 
     // The continuation comes due if it falls on n.
+    #[tactic(auto, unfolding(crate::specs::Continuations::continue_at))]
     pub(crate) fn continue_at(self, n: Instant) -> Task
         ensures { result ≡ continue_at n self }
     {
-        let alarm = self.continuation;
-        if alarm.falls_on(n) {
+        if self.continuation.falls_on(n) {
             return self.continued();
         }
         self
     }
 
     // A trigger of interrupt i at n sets off a continuation that waits for it.
+    #[tactic(auto, unfolding(crate::specs::Continuations::called_by))]
     pub(crate) fn called_by(self, i: u8, n: Instant) -> Task
         requires { n.0 ≤ last_instant }
         ensures { result ≡ called_by n i self }
     {
-        let alarm = self.continuation;
-        if alarm.listens_to(i) {
-            return self.with_next(alarm.set_off(n)).continue_at(n);
+        if self.continuation.listens_to(i) {
+            let t = Task {
+                continuation: self.continuation.set_off(n),
+                ..self
+            };
+            return t.continue_at(n);
         }
         self
     }

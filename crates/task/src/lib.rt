@@ -16,13 +16,6 @@ pub enum Hold {
     Delayed(Instant),
 }
 
-// The priority of the start that waits for the task to end, if there is one.
-#[derive(Clone, Copy)]
-pub enum Kept {
-    Empty,
-    Back(u8),
-}
-
 // A continuation has three parts: its alarm, the priority that it gives (0: the one current then), and whether a RESUME
 // made it. The last two stand where the fields before the hold leave room, so it takes 16 bytes of a task and not 24.
 #[derive(Clone, Copy)]
@@ -30,8 +23,10 @@ pub struct Task {
     pub declared: u8,
     pub current: u8,
     pub alive: bool,
-    pub kept: Kept,
+    // The priority of the start that waits for the task to end, if there is one.
+    pub kept: Option<u8>,
     pub wait: Wait,
+    // The list that it waits on, in fixed room, and how many of it are in use.
     pub len: u8,
     pub list: Numbers,
     pub given: u8,
@@ -50,6 +45,15 @@ pub struct Marks {
     pub lost: bool,
     pub granted: bool,
 }
+
+// No set has the task.
+pub const NO_MARKS: Marks = Marks {
+    due: false,
+    started: false,
+    ended: false,
+    lost: false,
+    granted: false,
+};
 
 // What happens to one task in a call.
 #[derive(Clone, Copy)]

@@ -1,11 +1,11 @@
 // One task's turn: what a due, an end, a tick or a call does to it, and which sets have it.
 ghost use Rattle.std.specs.Prelude.{◌≡◌, ◌||◌, ◌≤◌};
 ghost use Rattle.calendar.specs.Limits.{day_length, last_instant, most_instant};
-ghost use Rattle.task.specs.State.{runnable, wait_over, wait_for, unheld, suspended, is_kept, with_current, with_alive, with_kept, with_hold, with_schedule};
+ghost use Rattle.task.specs.State.{runnable, wait_over, wait_for, unheld, suspended, with_current, with_alive};
 ghost use Rattle.schedule.specs.Alarms.{listens};
-ghost use Rattle.task.specs.Turns.{marked, unmarked, cleared, due_turn, end_turn, prevent_turn, suspend_turn, go_on_turn, delay_turn, delay_ends, wake, fall_turn, tick_turn, plan_turn, start_turn, trigger_turn, go_on_later_turn, rest_turn};
+ghost use Rattle.task.specs.Turns.{unmarked, cleared, due_turn, end_turn, prevent_turn, suspend_turn, go_on_turn, delay_turn, delay_ends, wake, fall_turn, tick_turn, plan_turn, start_turn, trigger_turn, go_on_later_turn, rest_turn};
 
-use crate::{Hold, Kept, Marks, Task, Turn};
+use crate::{Hold, Marks, NO_MARKS, Task, Turn};
 use calendar::Instant;
 use layout::Numbers;
 use lock::{Wait, is_waiting};
@@ -15,67 +15,32 @@ impl Hold {
     pub fn is_unheld(self) -> bool
         ensures { result ≡ unheld self }
     {
-        match self {
-            Hold::Unheld => true,
-            Hold::Suspended => false,
-            Hold::Delayed(_) => false,
-        }
+        matches!(self, Hold::Unheld)
     }
 
     pub fn is_suspended(self) -> bool
         ensures { result ≡ suspended self }
     {
-        match self {
-            Hold::Unheld => false,
-            Hold::Suspended => true,
-            Hold::Delayed(_) => false,
-        }
+        matches!(self, Hold::Suspended)
     }
 
     // Whether a delay ends at n.
     pub fn ends_at(self, n: Instant) -> bool
         ensures { result ≡ delay_ends n self }
     {
-        match self {
-            Hold::Unheld => false,
-            Hold::Suspended => false,
-            Hold::Delayed(m) => m.0 == n.0,
-        }
-    }
-}
-
-impl Kept {
-    pub fn is_back(self) -> bool
-        ensures { result ≡ is_kept self }
-    {
-        match self {
-            Kept::Empty => false,
-            Kept::Back(_) => true,
-        }
+        matches!(self, Hold::Delayed(m) if m == n)
     }
 }
 
 impl Turn {
-    // A task and its marks; no turn grants.
-    fn marked(task: Task, due: bool, started: bool, ended: bool, lost: bool) -> Turn
-        ensures { result ≡ marked due started ended lost task }
-    {
-        let granted = false;
-        let marks = Marks {
-            due,
-            started,
-            ended,
-            lost,
-            granted,
-        };
-        Turn { task, marks }
-    }
-
     // A turn that marks nothing.
     pub fn unmarked(task: Task) -> Turn
         ensures { result ≡ unmarked task }
     {
-        Turn::marked(task, false, false, false, false)
+        Turn {
+            task,
+            marks: NO_MARKS,
+        }
     }
 }
 
@@ -83,15 +48,7 @@ impl Task {
     pub fn is_runnable(self) -> bool
         ensures { result ≡ runnable self }
     {
-        let hold = self.hold;
-        let wait = self.wait;
-        if !self.alive {
-            return false;
-        }
-        if !hold.is_unheld() {
-            return false;
-        }
-        !is_waiting(wait)
+        self.alive & self.hold.is_unheld() & !is_waiting(self.wait)
     }
 
     // A wait that is over; its list is not looked at any more.
@@ -116,24 +73,6 @@ impl Task {
         }
     }
 
-    fn with_kept(self, kept: Kept) -> Task
-        ensures { result ≡ with_kept kept self }
-    {
-        Task { kept, ..self }
-    }
-
-    fn with_hold(self, hold: Hold) -> Task
-        ensures { result ≡ with_hold hold self }
-    {
-        Task { hold, ..self }
-    }
-
-    fn with_schedule(self, schedule: Schedule) -> Task
-        ensures { result ≡ with_schedule schedule self }
-    {
-        Task { schedule, ..self }
-    }
-
     // Started or ended with priority p: unheld, waiting for nothing, with no start kept back.
     fn reset(self, alive: bool, p: u8) -> Task
         ensures { result ≡ with_alive alive (with_current p (cleared self)) }
@@ -141,7 +80,7 @@ impl Task {
         Task {
             current: p,
             alive,
-            kept: Kept::Empty,
+            kept: None,
             wait: Wait::Nothing,
             hold: Hold::Unheld,
             ..self
@@ -149,48 +88,71 @@ impl Task {
     }
 
     // A start with priority p falls due: it is made, kept back or lost.
-    pub fn due(self, p: u8) -> Turn
+    #[tactic(auto, unfolding(crate::specs::Turns::due_if))]
+    pub fn due(mut self, p: u8) -> Turn
         ensures { result ≡ due_turn p self }
     {
-        let kept = self.kept;
+        let mut marks = Marks {
+            due: true,
+            ..NO_MARKS
+        };
         if !self.alive {
-            return Turn::marked(self.reset(true, p), true, true, false, false);
+            marks.started = true;
+            self = self.reset(true, p);
+        } else if self.kept.is_none() {
+            self.kept = Some(p);
+        } else {
+            marks.lost = true;
         }
-        match kept {
-            Kept::Empty => Turn::marked(self.with_kept(Kept::Back(p)), true, false, false, false),
-            Kept::Back(_) => Turn::marked(self, true, false, false, true),
-        }
+        Turn { task: self, marks }
     }
 
     // The end of a task; a start kept back starts.
+    #[tactic(auto, unfolding(crate::specs::Turns::end_if))]
     pub fn end(self) -> Turn
         ensures { result ≡ end_turn self }
     {
-        let kept = self.kept;
-        let declared = self.declared;
-        match kept {
-            Kept::Empty => Turn::marked(self.reset(false, declared), false, false, true, false),
-            Kept::Back(p) => Turn::marked(self.reset(true, p), false, true, true, false),
-        }
+        let marks = Marks {
+            started: self.kept.is_some(),
+            ended: true,
+            ..NO_MARKS
+        };
+        let task = match self.kept {
+            None => self.reset(false, self.declared),
+            Some(p) => self.reset(true, p),
+        };
+        Turn { task, marks }
     }
 
     // PREVENT removes schedule, continuation and the start kept back, which is lost.
+    #[tactic(auto, unfolding(crate::specs::Turns::prevent_turn))]
     pub fn prevent(self) -> Turn
         ensures { result ≡ prevent_turn self }
     {
-        let kept = self.kept;
-        let lost = kept.is_back();
-        let t = self.with_kept(Kept::Empty).with_schedule(Schedule::none());
-        Turn::marked(t.dropped(), false, false, false, lost)
+        let marks = Marks {
+            lost: self.kept.is_some(),
+            ..NO_MARKS
+        };
+        let task = Task {
+            kept: None,
+            schedule: Schedule::none(),
+            ..self.dropped()
+        };
+        Turn { task, marks }
     }
 
+    #[tactic(auto, unfolding(crate::specs::Turns::suspend_turn))]
     pub fn suspend(self) -> Turn
         ensures { result ≡ suspend_turn self }
     {
-        Turn::unmarked(self.with_hold(Hold::Suspended))
+        Turn::unmarked(Task {
+            hold: Hold::Suspended,
+            ..self
+        })
     }
 
     // CONTINUE, with the priority given or, at 0, the current one.
+    #[tactic(auto, unfolding(crate::specs::Turns::go_on_turn))]
     pub fn go_on(self, given: u8) -> Turn
         ensures { result ≡ go_on_turn given self }
     {
@@ -198,32 +160,42 @@ impl Task {
     }
 
     // RESUME delays until n.
+    #[tactic(auto, unfolding(crate::specs::Turns::delay_turn))]
     pub fn delay(self, n: Instant) -> Turn
         ensures { result ≡ delay_turn n self }
     {
-        Turn::unmarked(self.with_hold(Hold::Delayed(n)))
+        Turn::unmarked(Task {
+            hold: Hold::Delayed(n),
+            ..self
+        })
     }
 
     // A task delayed until n is unheld.
+    #[tactic(auto, unfolding(crate::specs::Turns::wake))]
     fn wake(self, n: Instant) -> Task
         ensures { result ≡ wake n self }
     {
-        let hold = self.hold;
-        if hold.ends_at(n) {
-            return self.with_hold(Hold::Unheld);
+        if self.hold.ends_at(n) {
+            return Task {
+                hold: Hold::Unheld,
+                ..self
+            };
         }
         self
     }
 
     // What of the schedule falls on n is due.
+    #[tactic(auto, unfolding(crate::specs::Turns::fall_turn))]
     fn fall(self, n: Instant) -> Turn
         requires { n.0 ≤ most_instant }
         ensures { result ≡ fall_turn n self }
     {
         let s = self.schedule;
-        let alarm = s.alarm;
-        if alarm.falls_on(n) {
-            let t = self.with_schedule(s.advance(n));
+        if s.alarm.falls_on(n) {
+            let t = Task {
+                schedule: s.advance(n),
+                ..self
+            };
             return t.due(s.priority);
         }
         Turn::unmarked(self)
@@ -242,27 +214,28 @@ impl Task {
         requires { n.0 ≤ most_instant }
         ensures { result ≡ plan_turn n s self }
     {
-        self.with_schedule(s).fall(n)
+        let t = Task {
+            schedule: s,
+            ..self
+        };
+        t.fall(n)
     }
 
     // Whether the task has a schedule or a continuation that waits for interrupt i.
     pub fn listens_to(self, i: u8) -> bool
         ensures { result ≡ (listens i self.schedule.alarm || listens i self.continuation) }
     {
-        let s = self.schedule;
-        let alarm = s.alarm;
-        let continuation = self.continuation;
-        alarm.listens_to(i) | continuation.listens_to(i)
+        self.schedule.alarm.listens_to(i) | self.continuation.listens_to(i)
     }
 
     // A trigger of interrupt i at n sets off a schedule that waits for it.
+    #[tactic(auto, unfolding(crate::specs::Turns::start_turn))]
     fn start_by(self, clock: u32, n: Instant, i: u8) -> Turn
         requires { n.0 ≤ last_instant }
         ensures { result ≡ start_turn day_length clock n i self }
     {
         let s = self.schedule;
-        let alarm = s.alarm;
-        if alarm.listens_to(i) {
+        if s.alarm.listens_to(i) {
             return self.plan(s.trigger(clock, n), n);
         }
         Turn::unmarked(self)
@@ -288,7 +261,10 @@ impl Task {
     pub fn rest(self, alarm: Alarm, n: Instant) -> Turn
         ensures { result ≡ rest_turn n alarm self }
     {
-        let t = self.with_hold(Hold::Suspended);
+        let t = Task {
+            hold: Hold::Suspended,
+            ..self
+        };
         t.go_on_later(alarm, 0, true, n)
     }
 }

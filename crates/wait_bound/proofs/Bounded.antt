@@ -1,4 +1,5 @@
 -- Over a list of records: each RELEASE takes one away of those ahead, so the wait ends by one more.
+use Rattle.std.specs.Prelude.{Some}
 use mathlib.Core.Path.{◌≡◌, refl, ap}
 use mathlib.Core.Bool.{Bool, true, false}
 use mathlib.Core.List.{List, [], ◌∷◌}
@@ -15,7 +16,6 @@ use Rattle.machine.specs.declared.State.{State}
 use Rattle.machine.proofs.Answers.{answers_runner}
 use Rattle.machine.proofs.Invariants.{step_passes}
 use Rattle.wait_bound.specs.Queue.{ahead, waits_for_one, waited_for, bound_of}
-use Rattle.wait_bound.specs.declared.Bound.TheVariants.{Within}
 use Rattle.wait_bound.specs.declared.Releases.{Releases}
 use Rattle.wait_bound.specs.Stages.{Stage, stages_from, stages, how_many, up_to, while}
 use Rattle.wait_bound.specs.Waiting.{stage_of, releases, grants, waits, ends, changes_priority, overtakes, Undisturbed, NobodyGetsAhead, WaitIsBounded, BoundIsRead, NoOtherBound, BoundHolds}
@@ -123,7 +123,7 @@ unfolding bound_of
 no_other_bound k j e = rw e
 
 -- What is read is the bound of a task that waits so.
-pub bound_parts : (k : State) (j : ℕ) (b : Releases) → bound_of k j ≡ Within b → (waits_for_one k j ≡ true) × (record { semaphore = waited_for k j; number = suc (ahead k (waited_for k j) j) } ≡ b)
+pub bound_parts : (k : State) (j : ℕ) (b : Releases) → bound_of k j ≡ Some b → (waits_for_one k j ≡ true) × (record { semaphore = waited_for k j; number = suc (ahead k (waited_for k j) j) } ≡ b)
 unfolding bound_of
 bound_parts k j b e =
     by_bool (waits_for_one k j) (λ w. (w, let z = rw w at e in cc)) (λ w. absurd (let z = rw w at e in let x : ◌≡◌ {A = ℕ} 0 1 = cc in omega arith))

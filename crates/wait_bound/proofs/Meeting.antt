@@ -1,4 +1,5 @@
 -- RELEASEs one after the other, by whoever runs, meet the hypotheses.
+use Rattle.std.specs.Prelude.{None, Some}
 use mathlib.Core.Path.{◌≡◌, refl, ap, ◌∙◌}
 use mathlib.Core.Bool.{Bool, true, false, not, ◌&&◌, and-false}
 use mathlib.Core.List.{List, [], ◌∷◌}
@@ -27,7 +28,7 @@ use Rattle.task.specs.State.{runnable, wanted}
 use Rattle.machine.specs.Sums.{all_below}
 use Rattle.machine.specs.State.{task_at}
 use Rattle.machine.specs.Sorts.{declares}
-use Rattle.machine.specs.Running.{urgency, running_of, runner, someone}
+use Rattle.machine.specs.Running.{urgency, running_of, runner, someone, Running}
 use Rattle.machine.specs.Work.{Work}
 use Rattle.machine.specs.Refusals.{declared_by, room_for, formal_refusal, refusal_by}
 use Rattle.machine.specs.Serving.{Served, grant_to, serve}
@@ -37,8 +38,6 @@ use Rattle.machine.specs.Log.{AllOctets}
 use Rattle.machine.specs.Invariants.{IsDay, Passes}
 use Rattle.machine.specs.Scripts.{row, release}
 use Rattle.machine.specs.declared.State.{State}
-use Rattle.machine.specs.declared.Running.{Running}
-use Rattle.machine.specs.declared.Running.TheVariants.{Idle, Runs}
 use Rattle.machine.proofs.Below.{all_from, sum_le, most_urgent_idle, most_urgent_at}
 use Rattle.machine.proofs.SetLaws.{has_empty}
 use Rattle.machine.proofs.Passed.{refusal_of}
@@ -182,12 +181,12 @@ module _ (day : ℕ) (k : State) (s : ℕ) (low : s < k.counts.semaphores) (run 
         z = (finish k given).state
 
         after : (i : ℕ) → i < k.counts.tasks → runnable (task_at z.tasks i) ≡ true → (r : Running) → runner z ≡ r → someone r ≡ true
-        after i l e Idle q = contra e (most_urgent_idle k.counts.tasks (λ i. runnable (task_at z.tasks i)) (urgency z.places z.tasks) q i l)
-        after i l e (Runs x) q = refl
+        after i l e None q = contra e (most_urgent_idle k.counts.tasks (λ i. runnable (task_at z.tasks i)) (urgency z.places z.tasks) q i l)
+        after i l e (Some x) q = refl
 
         go : (r : Running) → runner k ≡ r → someone r ≡ true → someone (runner z) ≡ true
-        go Idle q e = contra e refl
-        go (Runs i) q e =
+        go None q e = contra e refl
+        go (Some i) q e =
             let u = most_urgent_at k.counts.tasks (λ i. runnable (task_at k.tasks i)) (urgency k.places k.tasks) i q in
             after i u.0 (rw (serve_rests k.counts.tasks k.places (unserved given) i (runs k i q).2) u.1) (runner z) refl
 

@@ -1,4 +1,5 @@
 -- A task that goes on living keeps its priority, but for a CONTINUE.
+use Rattle.std.specs.Prelude.{None, Ok, Option, Some}
 use mathlib.Core.Path.{◌≡◌, refl, sym, ap, ◌∙◌}
 use mathlib.Core.Bool.{Bool, true, false, not, ◌&&◌, ◌||◌, and-true, and-false}
 use mathlib.Core.List.{List}
@@ -15,7 +16,6 @@ use Rattle.layout.specs.declared.Mark.{Mark}
 use Rattle.layout.specs.declared.Mark.TheVariants.{AC, TE, SU, PR, CO, RE, TG, TI, SL}
 use Rattle.record.specs.Refusals.{named}
 use Rattle.record.specs.Reading.{accepted, opened}
-use Rattle.record.specs.declared.Read.TheVariants.{Accepted}
 use Rattle.lock.specs.declared.Locks.{Locks}
 use Rattle.lock.specs.declared.Wait.{Wait}
 use Rattle.schedule.specs.Alarms.{listening, falls, listens}
@@ -25,8 +25,6 @@ use Rattle.facts.proofs.Bools.{by_bool, by_eq, contra, both, neither}
 use Rattle.task.specs.State.{no_task, with_schedule}
 use Rattle.task.specs.Continuations.{or_else, spent, continued, continue_at, called_by}
 use Rattle.task.specs.Turns.{due_if, end_if, prevent_turn, suspend_turn, delay_turn, delay_ends, wake, fall_turn, tick_turn, start_turn, trigger_turn, rest_turn}
-use Rattle.task.specs.declared.Kept.{Kept}
-use Rattle.task.specs.declared.Kept.TheVariants.{Empty, Back}
 use Rattle.task.specs.declared.Task.{Task}
 use Rattle.task.specs.declared.Turn.{Turn}
 use Rattle.machine.specs.Sets.{Ended, holds, mark}
@@ -62,11 +60,11 @@ use Rattle.lock.proofs.Bits.{eqb_bit}
 abbrev Steady : Task → Turn → Type 0
 Steady t u = t.alive ≡ true → u.marks.ended ≡ false → u.task.current ≡ t.current
 
-due_steady : (b : Bool) (k : Kept) (p : ℕ) (t : Task) → b ≡ true → (due_if b k p t).task.current ≡ t.current
+due_steady : (b : Bool) (k : Option ℕ) (p : ℕ) (t : Task) → b ≡ true → (due_if b k p t).task.current ≡ t.current
 unfolding due_if
 due_steady false k p t a = contra a refl
-due_steady true Empty p t a = refl
-due_steady true (Back q) p t a = refl
+due_steady true None p t a = refl
+due_steady true (Some q) p t a = refl
 
 fall_steady : (n : Instant) (t : Task) → t.alive ≡ true → (fall_turn n t).task.current ≡ t.current
 unfolding fall_turn
@@ -74,10 +72,10 @@ fall_steady n t a =
     by_bool (falls n t.schedule.alarm)
     (λ e. rw e (due_steady t.alive t.kept t.schedule.priority (with_schedule (advance n t.schedule) t) a)) (λ e. rw e)
 
-end_steady : (k : Kept) (t : Task) → (end_if k t).marks.ended ≡ false → (end_if k t).task.current ≡ t.current
+end_steady : (k : Option ℕ) (t : Task) → (end_if k t).marks.ended ≡ false → (end_if k t).task.current ≡ t.current
 unfolding end_if
-end_steady Empty t e = contra refl e
-end_steady (Back p) t e = contra refl e
+end_steady None t e = contra refl e
+end_steady (Some p) t e = contra refl e
 
 spent_steady : (t : Task) → (spent t).current ≡ t.current
 unfolding spent
@@ -145,7 +143,7 @@ asks_steady n ts w b c t l =
 -- ---- a call's work
 
 module _ (day : ℕ) (k : State) (v : valid day k ≡ true) (c : Call) (i : ℕ) (l : i < k.counts.tasks)
-    (calm : continues k (Accepted c.head) i ≡ false) where
+    (calm : continues k (Ok c.head) i ≡ false) where
   abbrev t : Task
   t = task_at k.tasks i
 
@@ -224,7 +222,7 @@ module _ (day : ℕ) (is_day : IsDay day) (k : State) (p : Passes day k) (b : Li
   called c q e =
       let number : (step day k b).answer.number ≡ 0 = rw e (unfold finish in refl) in
       let w = work_of day k c in
-      by_bool (continues k (Accepted c.head) i) (λ y. rw (number, q) y)
+      by_bool (continues k (Ok c.head) i) (λ y. rw (number, q) y)
       (λ y.
       let s = work_steady day k (taken_valid day k p.tested) c i l y (sort_of c.head.mark) refl in
       let f = (held_on (task_at w.tasks i) (task_at (finish k w).state.tasks i) (finish_keeps k w i)).current in

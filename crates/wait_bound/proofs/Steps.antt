@@ -1,4 +1,5 @@
 -- One step: while task j waits, nobody new gets ahead of it, and each RELEASE takes one away.
+use Rattle.std.specs.Prelude.{is_some}
 use mathlib.Core.Path.{◌≡◌, refl, sym, ◌∙◌}
 use mathlib.Core.Bool.{true, false, not}
 use mathlib.Core.List.{List}
@@ -17,7 +18,7 @@ use Rattle.record.specs.Reading.{opened}
 use Rattle.lock.specs.Locks.{bit, waiting, give_all}
 use Rattle.lock.specs.declared.Wait.TheVariants.{Request}
 use Rattle.facts.proofs.Bools.{by_bool, contra, both, and_both}
-use Rattle.task.specs.State.{unheld, is_kept}
+use Rattle.task.specs.State.{unheld}
 use Rattle.task.proofs.Fairness.{rest_facts}
 use Rattle.machine.specs.Sums.{sum_below, all_below}
 use Rattle.machine.specs.State.{task_at, place_at}
@@ -74,7 +75,7 @@ module _ (day : ℕ) (is_day : IsDay day) (k : State) (p : Passes day k) (b : Li
   alive i l w =
       let t = task_at k.tasks i in
       by_bool t.alive (λ e. e)
-      (λ e. contra w (rest_facts t.alive (is_kept t.kept) (waiting t.wait) (unheld t.hold) (ok.tasks_ok_law i l).rests e).1)
+      (λ e. contra w (rest_facts t.alive (is_some t.kept) (waiting t.wait) (unheld t.hold) (ok.tasks_ok_law i l).rests e).1)
 
   module _ (lives : ends j g ≡ false) (priorities : changes_priority g ≡ false) (newcomers : overtakes s j g ≡ false) (left : grants j g ≡ false) where
     -- ---- task j waits on

@@ -1,4 +1,5 @@
 -- What a step does to the wait of each task: it goes on, is granted, ends with its task, or begins.
+use Rattle.std.specs.Prelude.{Some}
 use mathlib.Core.Path.{◌≡◌, refl, ◌∙◌}
 use mathlib.Core.Bool.{true, false, not, ◌&&◌, ◌||◌}
 use mathlib.Core.List.{List}
@@ -33,7 +34,6 @@ use Rattle.machine.specs.OnePass.{unserved}
 use Rattle.machine.specs.Turns.{waits_in}
 use Rattle.machine.specs.Invariants.{IsDay, Passes}
 use Rattle.machine.specs.declared.State.{State}
-use Rattle.machine.specs.declared.Running.TheVariants.{Runs}
 use Rattle.machine.specs.declared.Stepped.{Stepped}
 use Rattle.machine.proofs.SetLaws.{has_empty}
 use Rattle.machine.proofs.Facts.{ok_of_passes}
@@ -48,7 +48,7 @@ use Rattle.wait_bound.proofs.Served.{served_part}
 
 -- Task i, the running one, issued an accepted REQUEST that names s.
 pub record Newcomer (k : State) (b : List ℕ) (z : Stepped) (s i : ℕ) : Type 0 where
-  pub runs : runner k ≡ Runs i
+  pub runs : runner k ≡ Some i
   pub number : z.answer.number ≡ 0
   pub call : call_on RQ s (opened b).answer (opened b).list ≡ true
 

@@ -1,4 +1,5 @@
 -- What a call's own work, before the waiting tasks are served, does to the wait of each task.
+use Rattle.std.specs.Prelude.{Some}
 use mathlib.Core.Path.{◌≡◌, refl, sym, ◌∙◌}
 use mathlib.Core.Bool.{Bool, true, false, not}
 use mathlib.Core.List.{List}
@@ -28,7 +29,6 @@ use Rattle.machine.specs.Calls.{change_of, work_by, work_of}
 use Rattle.machine.specs.Turns.{waits_in}
 use Rattle.machine.specs.Work.{Work, changed, every_turn}
 use Rattle.machine.specs.declared.State.{State}
-use Rattle.machine.specs.declared.Running.TheVariants.{Runs}
 use Rattle.machine.proofs.SetLaws.{has_empty, has_only, has_only_other}
 use Rattle.machine.proofs.Facts.{StateOk, task_room}
 use Rattle.machine.proofs.Works.{one_turn, only_locks, locks_alone, set_at}
@@ -38,7 +38,7 @@ use Rattle.lock.proofs.Bits.{eqb_bit}
 
 -- The running task i begins to wait for the list of its call.
 pub record Begins (k : State) (c : Call) (r : Role) (i : ℕ) (u : Task) : Type 0 where
-  pub runs : runner k ≡ Runs i
+  pub runs : runner k ≡ Some i
   pub kind : r.asks ≡ u.wait
   pub stays : r.stays ≡ true
   pub list : wanted u ≡ named c

@@ -1,6 +1,6 @@
 -- Each hypothesis is needed, and lists of several count too: scripts that are worked out by hand, from byte records on a
 -- kernel in which nothing is declared, and what follows from them (request 4). Proved in proofs/Needing.antt.
-use Rattle.std.specs.Prelude.{◌≡◌, ◌&&◌, List, [], ◌∷◌, ◌++◌, ℕ, suc, ◌<◌, eqb}
+use Rattle.std.specs.Prelude.{Some, ◌≡◌, ◌&&◌, List, [], ◌∷◌, ◌++◌, ℕ, suc, ◌<◌, eqb}
 use Rattle.calendar.specs.Limits.{day_length}
 use Rattle.lock.specs.Locks.{bit}
 use Rattle.machine.specs.Sums.{sum_below}
@@ -9,9 +9,7 @@ use Rattle.machine.specs.Log.{AllOctets, final}
 use Rattle.machine.specs.Invariants.{IsDay, Passes}
 use Rattle.machine.specs.Scripts.{declare_task, declare_semaphore, activate, terminate, suspend, request, release, try, one_tick, CONTINUE◌PRIO◌, AFTER◌CONTINUE◌PRIO◌}
 use Rattle.machine.specs.declared.State.{State}
-use Rattle.wait_bound.specs.Queue.{is_ahead, ahead, bound_of}
-use Rattle.wait_bound.specs.declared.Bound.{Bound}
-use Rattle.wait_bound.specs.declared.Bound.TheVariants.{Within}
+use Rattle.wait_bound.specs.Queue.{is_ahead, ahead, bound_of, Bound}
 use Rattle.wait_bound.specs.Stages.{Stage, stages, how_many, up_to, while}
 use Rattle.wait_bound.specs.Waiting.{releases, grants, waits, ends, changes_priority, overtakes, Undisturbed, WaitsFor, GrantedBy}
 
@@ -71,7 +69,7 @@ shown j s m past next =
 
 -- Semaphore 0 and m RELEASEs.
 abbrev pub within : ℕ → Bound
-within m = Within (record { semaphore = 0; number = m })
+within m = Some (record { semaphore = 0; number = m })
 
 -- One RELEASE is made, and these stages are against the hypotheses; the task isn't granted.
 abbrev pub left : ℕ → ℕ → ℕ → Shown

@@ -1,5 +1,6 @@
 -- Who waits for a semaphore, who is ahead of whom, and after how many RELEASEs a task is granted (request 4).
-use Rattle.std.specs.Prelude.{Bool, cond, ◌&&◌, ℕ, suc, ltb, eqb, get_or}
+use Rattle.std.specs.Prelude.{Option, None, Some, Bool, cond, ◌&&◌, ℕ, suc, ltb, eqb, get_or}
+use Rattle.wait_bound.specs.declared.Releases.{Releases}
 use Rattle.lists.specs.Lists.{names}
 use Rattle.lock.specs.Locks.{bit, same_kind}
 use Rattle.lock.specs.declared.Wait.TheVariants.{Request}
@@ -9,8 +10,6 @@ use Rattle.machine.specs.Sums.{sum_below}
 use Rattle.machine.specs.State.{task_at}
 use Rattle.machine.specs.Running.{urgency}
 use Rattle.machine.specs.declared.State.{State}
-use Rattle.wait_bound.specs.declared.Bound.{Bound}
-use Rattle.wait_bound.specs.declared.Bound.TheVariants.{Unbounded, Within}
 
 -- A task waits in a REQUEST whose list names semaphore s, alone or among others.
 abbrev pub queues : ℕ → Task → Bool
@@ -34,8 +33,12 @@ waits_for_one k i =
 abbrev pub waited_for : State → ℕ → ℕ
 waited_for k i = get_or (task_at k.tasks i).list 0 0
 
+-- By when a task is granted; none where it doesn't wait in a REQUEST of one semaphore.
+abbrev pub Bound : Type 0
+Bound = Option Releases
+
 -- The semaphore that task i alone waits for, and the number of accepted RELEASEs that name it by which it is granted.
 unfoldable pub bound_of : State → ℕ → Bound
 bound_of k i =
     let s = waited_for k i in
-    cond (waits_for_one k i) (Within (record { semaphore = s; number = suc (ahead k s i) })) Unbounded
+    cond (waits_for_one k i) (Some (record { semaphore = s; number = suc (ahead k s i) })) None

@@ -1,10 +1,9 @@
 -- What happens over a list of records, one stage for each.
 use Rattle.std.specs.Prelude.{Bool, cond, List, [], ◌∷◌, ℕ, ◌+◌, ◌-◌, eqb}
 use Rattle.lock.specs.Locks.{bit}
-use Rattle.machine.specs.Running.{runner}
+use Rattle.machine.specs.Running.{runner, Running}
 use Rattle.machine.specs.Step.{step}
 use Rattle.machine.specs.declared.State.{State}
-use Rattle.machine.specs.declared.Running.{Running}
 use Rattle.machine.specs.declared.Stepped.{Stepped}
 
 -- The running task of the answer before, the kernel handed in, the record, and what the step hands back.

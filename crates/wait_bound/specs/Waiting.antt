@@ -1,30 +1,25 @@
 -- How long a waiting task waits (request 4), for every kernel that passes the test and every list of records. Proved in
 -- proofs/Bounded.antt and proofs/Meeting.antt.
-use Rattle.std.specs.Prelude.{◌≡◌, Bool, true, false, not, ◌&&◌, List, [], ◌∷◌, ℕ, suc, ◌+◌, ◌<◌, ◌≤◌, ltb, eqb}
+use Rattle.std.specs.Prelude.{Err, None, Ok, Some, ◌≡◌, Bool, true, false, not, ◌&&◌, List, [], ◌∷◌, ℕ, suc, ◌+◌, ◌<◌, ◌≤◌, ltb, eqb}
 use Rattle.layout.specs.Fields.{Octets}
 use Rattle.layout.specs.Marks.{is}
 use Rattle.layout.specs.declared.Mark.{Mark}
 use Rattle.layout.specs.declared.Mark.TheVariants.{RQ, RL}
 use Rattle.lists.specs.Lists.{names}
 use Rattle.record.specs.Refusals.{named, most_value}
-use Rattle.record.specs.Reading.{call_with, opened}
-use Rattle.record.specs.declared.Read.{Read}
-use Rattle.record.specs.declared.Read.TheVariants.{Refused, Accepted}
+use Rattle.record.specs.Reading.{call_with, opened, Read}
 use Rattle.lock.specs.Locks.{bit}
 use Rattle.machine.specs.Sums.{all_below}
 use Rattle.machine.specs.Sets.{holds}
 use Rattle.machine.specs.State.{task_at}
-use Rattle.machine.specs.Running.{runner, someone}
+use Rattle.machine.specs.Running.{runner, someone, Running}
 use Rattle.machine.specs.Step.{step}
 use Rattle.machine.specs.Log.{AllOctets}
 use Rattle.machine.specs.Invariants.{IsDay, Passes}
 use Rattle.machine.specs.Scripts.{row, release}
 use Rattle.machine.specs.Turns.{waits_in}
 use Rattle.machine.specs.declared.State.{State}
-use Rattle.machine.specs.declared.Running.{Running}
-use Rattle.machine.specs.declared.Running.TheVariants.{Idle, Runs}
 use Rattle.wait_bound.specs.Queue.{ahead, waits_for_one, waited_for, bound_of}
-use Rattle.wait_bound.specs.declared.Bound.TheVariants.{Unbounded, Within}
 use Rattle.wait_bound.specs.declared.Releases.{Releases}
 use Rattle.wait_bound.specs.Stages.{Stage, stages, how_many, up_to, while}
 
@@ -32,8 +27,8 @@ use Rattle.wait_bound.specs.Stages.{Stage, stages, how_many, up_to, while}
 
 -- What was opened has the mark m, and its list names s.
 abbrev pub call_on : Mark → ℕ → Read → List ℕ → Bool
-call_on m s (Refused n) l = false
-call_on m s (Accepted h) l = is h.mark m && names (named (call_with h l)) s
+call_on m s (Err n) l = false
+call_on m s (Ok h) l = is h.mark m && names (named (call_with h l)) s
 
 -- An accepted call of the mark m whose list names s.
 abbrev pub accepted_on : Mark → ℕ → Stage → Bool
@@ -70,8 +65,8 @@ changes_priority g = not (all_below g.kernel.counts.tasks (λ i. not (changes_at
 
 -- A running task whose priority number is smaller than that of j.
 abbrev pub outranks : State → Running → ℕ → Bool
-outranks k Idle j = false
-outranks k (Runs i) j = ltb (task_at k.tasks i).current (task_at k.tasks j).current
+outranks k None j = false
+outranks k (Some i) j = ltb (task_at k.tasks i).current (task_at k.tasks j).current
 
 -- An accepted REQUEST that names s is issued by such a task.
 abbrev pub overtakes : ℕ → ℕ → Stage → Bool
@@ -119,17 +114,17 @@ WaitIsBounded =
 -- For each task that waits so there is one,
 abbrev pub BoundIsRead : Type 0
 BoundIsRead =
-    (k : State) (j s : ℕ) → WaitsFor k j s → bound_of k j ≡ Within (record { semaphore = s; number = suc (ahead k s j) })
+    (k : State) (j s : ℕ) → WaitsFor k j s → bound_of k j ≡ Some (record { semaphore = s; number = suc (ahead k s j) })
 
 -- for no other,
 abbrev pub NoOtherBound : Type 0
-NoOtherBound = (k : State) (j : ℕ) → waits_for_one k j ≡ false → bound_of k j ≡ Unbounded
+NoOtherBound = (k : State) (j : ℕ) → waits_for_one k j ≡ false → bound_of k j ≡ None
 
 -- and it holds.
 abbrev pub BoundHolds : Type 0
 BoundHolds =
     (day : ℕ) → IsDay day → (k : State) → Passes day k → (bs : List (List ℕ)) → AllOctets bs
-    → (j : ℕ) (b : Releases) → bound_of k j ≡ Within b
+    → (j : ℕ) (b : Releases) → bound_of k j ≡ Some b
     → let gs = stages day k bs in Undisturbed b.semaphore j (while (waits j) gs)
     → b.number ≤ how_many (releases b.semaphore) gs → GrantedBy b.number b.semaphore j gs
 

@@ -9,9 +9,5 @@ pub struct Releases {
     pub number: u8,
 }
 
-// By when a task is granted; unbounded where it doesn't wait in a REQUEST of one semaphore.
-#[derive(Clone, Copy)]
-pub enum Bound {
-    Unbounded,
-    Within(Releases),
-}
+// By when a task is granted; none where it doesn't wait in a REQUEST of one semaphore.
+pub type Bound = Option<Releases>;

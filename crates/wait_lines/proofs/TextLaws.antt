@@ -1,4 +1,5 @@
 -- The lines of the tasks looked at so far.
+use Rattle.std.specs.Prelude.{Some}
 use mathlib.Core.Path.{◌≡◌, refl}
 use mathlib.Core.List.{List, [], ◌∷◌}
 use Prim.Native.Nat.{ℕ, ◌+◌, ◌≤◌}
@@ -10,9 +11,7 @@ use Rattle.lines.specs.Decimals.{decimal, spelt}
 use Rattle.lines.proofs.PlacedLaws.{wrote_nothing, then}
 use Rattle.machine.specs.State.{most_tasks}
 use Rattle.machine.specs.declared.State.{State}
-use Rattle.wait_bound.specs.declared.Bound.{Bound}
-use Rattle.wait_bound.specs.declared.Bound.TheVariants.{Within}
-use Rattle.wait_bound.specs.Queue.{bound_of}
+use Rattle.wait_bound.specs.Queue.{Bound, bound_of}
 use Rattle.wait_lines.specs.Text.{wait_line, bound_text, text_below, wait_text}
 
 module _ (k : State) (before : List ℕ) (at : ℕ) where
@@ -30,6 +29,6 @@ module _ (k : State) (before : List ℕ) (at : ℕ) where
   text_all below above w = rw (← le_antisymm below above) w
 
 -- 3 0 12
-example : bound_text 3 (Within (record { semaphore = 0; number = 12 })) ≡ 51 ∷ 32 ∷ 48 ∷ 32 ∷ 49 ∷ 50 ∷ 10 ∷ []
+example : bound_text 3 (Some (record { semaphore = 0; number = 12 })) ≡ 51 ∷ 32 ∷ 48 ∷ 32 ∷ 49 ∷ 50 ∷ 10 ∷ []
 unfolding bound_text wait_line decimal spelt
 example = refl

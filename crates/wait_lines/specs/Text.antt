@@ -1,13 +1,11 @@
 -- The lines of text for the tasks that wait in a REQUEST of one semaphore.
-use Rattle.std.specs.Prelude.{List, [], ◌∷◌, ◌++◌, ℕ, zero, suc, ◌*◌}
+use Rattle.std.specs.Prelude.{None, Some, List, [], ◌∷◌, ◌++◌, ℕ, zero, suc, ◌*◌}
 use Rattle.lines.specs.Decimals.{decimal}
 use Rattle.lines.specs.Lines.{space, line_feed}
 use Rattle.machine.specs.State.{most_tasks}
 use Rattle.machine.specs.declared.State.{State}
-use Rattle.wait_bound.specs.declared.Bound.{Bound}
-use Rattle.wait_bound.specs.declared.Bound.TheVariants.{Unbounded, Within}
+use Rattle.wait_bound.specs.Queue.{Bound, bound_of}
 use Rattle.wait_bound.specs.declared.Releases.{Releases}
-use Rattle.wait_bound.specs.Queue.{bound_of}
 
 -- The task, the semaphore and the number of RELEASEs, as 3 0 2 and a line feed.
 unfoldable pub wait_line : ℕ → Releases → List ℕ
@@ -15,8 +13,8 @@ wait_line i r = decimal i ++ space ∷ decimal r.semaphore ++ space ∷ decimal 
 
 -- Nothing for a task that doesn't wait so.
 unfoldable pub bound_text : ℕ → Bound → List ℕ
-bound_text i Unbounded = []
-bound_text i (Within r) = wait_line i r
+bound_text i None = []
+bound_text i (Some r) = wait_line i r
 
 -- The lines of the first n tasks, in order of their numbers.
 unfoldable pub text_below : ℕ → State → List ℕ

@@ -30,8 +30,8 @@ fn bound_at(task: u8, b: Bound, out: &mut [u8], at: usize) -> usize
     ensures upper_bound { result ≤ at + line_room }
 {
     match b {
-        Bound::Unbounded => at,
-        Bound::Within(r) => line_at(task, r, out, at),
+        None => at,
+        Some(r) => line_at(task, r, out, at),
     }
 }
 

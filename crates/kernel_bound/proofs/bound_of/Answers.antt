@@ -1,8 +1,7 @@
 -- By its tests.
 use mathlib.Core.Bool.{not}
-use mathlib.Core.Path.{ap}
+use mathlib.Core.Path.{ap, refl}
 use borrow.Author.Rules.{rules}
-use mathlib.Core.Path.{refl}
 use Rattle.kernel_values.proofs.Owned.{Owned, tasks_long}
 use Rattle.kernel_bound.proofs.QueueLaws.{not_declared, not_for_one, for_one}
 use Rattle.kernel_bound.proofs.bound_of.Goals as goal

@@ -1,15 +1,15 @@
 -- The scan's sets and lead are those of all tasks; the second scan is of the kernel that serving leaves.
 use borrow.Author.Rules.{rules}
-use mathlib.Core.Path.{refl, sym, ◌∙◌}
+use Rattle.std.specs.Prelude.{None}
+use mathlib.Core.Path.{◌≡◌, refl, sym, ◌∙◌}
 use native.Mathlib.Nat.{min-eq_left, le_antisymm}
 use Rattle.facts.proofs.Bools.{contra}
 use Rattle.kernel_values.proofs.Owned.{tables_long}
 use Rattle.kernel_test.proofs.SoundLaws.{places_fit}
-use Rattle.kernel_values.proofs.RunningLaws.{not_someone}
 use Rattle.kernel_finish.proofs.Scanning.{Scanned, scanning_none, scanning_more, scanning_all}
 use Rattle.kernel_finish.proofs.EndLaws.{Settled, nobody_waits, settled_idle, then_second, settled_served, settled_ends}
 use Rattle.kernel_finish.proofs.finished.Goals as goal
-use Rattle.kernel_finish.proofs.finished.Goals.{then-served, else-served+then-waiting-eq0, else-served+else-waiting-eq0+then-not-is_someone}
+use Rattle.kernel_finish.proofs.finished.Goals.{then-served, else-served+then-waiting-eq0, else-served+else-waiting-eq0+then-is_none}
 
 pub loop-i-2-init : goal.loop-i-2-init
 loop-i-2-init c = (search rules, scanning_none _ _ c.no_lead-lead.ensures)
@@ -29,8 +29,8 @@ loop-i-preserved c =
     let first = c.loop-i.invariant.0 c.if-served.false in
     (λ e. contra refl e, λ e. then_second _ _ _ scan first c.turned_back-before.ensures c.serve-s.ensures c.late_of-late.ensures)
 
-pub moved-places-requires : goal.moved-places-requires
-moved-places-requires c = places_fit c.args.k c.requires.k_value
+pub moved-k-requires : goal.moved-k-requires
+moved-k-requires c = places_fit c.args.k c.requires.k_value
 
 pub returns : goal.returns
 returns c ts t =
@@ -45,11 +45,11 @@ returns c ts t =
       | else-served+then-waiting-eq0 w ↦
           rw w.before-is (settled_idle _ _ _ scan (p.invariant.0 w.if-served.false) w.turned_back-before.ensures
           (nobody_waits _ _ _ scan (p.invariant.0 w.if-served.false) w.turned_back-before.ensures w.if-waiting-eq0.true) ts t)
-      | else-served+else-waiting-eq0+then-not-is_someone w ↦
+      | else-served+else-waiting-eq0+then-is_none w ↦
           rw w.before-is (settled_idle _ _ _ scan (p.invariant.0 w.if-served.false) w.turned_back-before.ensures
-          (sym w.next_served.ensures ∙ not_someone _ (sym w.is_someone.ensures ∙ w.if-not-is_someone.true)) ts t)
+          (sym w.next_served.ensures ∙ (let h : w.next_served.result ≡ None = search rules in h)) ts t)
     ] in
     rw (c.answer_of.ensures, c.begun_at.ensures, c.who-running.ensures)
     (settled_ends a.k a.m fits c.requires.places_value (tables_long a.k (c.well_formed.0.0, c.well_formed.0.1.1)).places ts
     p.k p.granted l.lead c.if-served.before _ s
-    c.events_of.result (λ us q. c.events_of.ensures _ ts us fits s.stood q) c.moved-places.result c.moved-places.ensures a.next)
+    c.events_of-events.result (λ us q. c.events_of-events.ensures _ ts us fits s.stood q) c.moved-k.result c.moved-k.ensures a.next)

@@ -13,7 +13,6 @@ use Rattle.machine.specs.State.{most_tasks}
 use Rattle.kernel_values.proofs.Owned.{Owned, tables_long}
 use Rattle.kernel_sets.specs.Standing.{Turned}
 use Rattle.kernel_test.proofs.SoundLaws.{places_fit}
-use Rattle.kernel_values.proofs.RunningLaws.{not_someone}
 use Rattle.kernel_finish.proofs.Scanning.{Scanned, Scanning, scanning_none, scanning_more, scanning_all}
 use Rattle.kernel_finish.proofs.EndLaws.{First, Second, Settled, nobody_waits, settled_idle, then_second, settled_served, settled_ends}
 use Rattle.kernel_finish.proofs.finished.Given as goal

@@ -16,25 +16,7 @@ use Rattle.kernel_interrupts.proofs.trigger_all.Goals as goal
 use Rattle.kernel_interrupts.proofs.trigger_all.Goals.{then-listens_to, else-listens_to}
 
 pub loop-i-init : goal.loop-i-init
-loop-i-init c = (search rules, rw c.no_sets-s.ensures (made_none _ _), c.nobody_turned-turned.ensures _ _)
-
-pub bounds-k-i : goal.bounds-k-i
-bounds-k-i c = omega (arith, c.loop-i-test.true, c.requires.tasks_le_most_tasks)
-
-pub trigger-u-requires : goal.trigger-u-requires
-trigger-u-requires c = c.requires.k_le_last_instant
-
-pub offset_bounds-k-i-then-listens_to : goal.offset_bounds-k-i-then-listens_to
-offset_bounds-k-i-then-listens_to c = omega (arith, c.loop-i-test.true, c.requires.tasks_le_most_tasks)
-
-pub bounds-k-i-then-listens_to : goal.bounds-k-i-then-listens_to
-bounds-k-i-then-listens_to c = omega (arith, c.loop-i-test.true, c.requires.tasks_le_most_tasks)
-
-pub put_marks-s-requires : goal.put_marks-s-requires
-put_marks-s-requires c = omega (arith, c.loop-i-test.true, c.requires.tasks_le_most_tasks)
-
-pub with_turn-turned-requires : goal.with_turn-turned-requires
-with_turn-turned-requires c = omega (arith, c.loop-i-test.true, c.requires.tasks_le_most_tasks)
+loop-i-init c = (search rules, rw c.no_sets-sets.ensures (made_none _ _), c.nobody_turned-turned.ensures _ _, c.requires.tasks_le_most_tasks)
 
 pub loop-i-preserved : goal.loop-i-preserved
 loop-i-preserved c =
@@ -46,8 +28,8 @@ loop-i-preserved c =
     let room : o.i < length o.k.tasks = omega (arith, less, made_long f k o.invariant.1) in (
       search rules,
       elim c.if-listens_to.branch [
-        | then-listens_to w ↦ made_more f k o.i less o.invariant.1 w.trigger-u.result w.trigger-u.ensures w.k-is (w.s-is ∙ w.put_marks-s.ensures)
-        | else-listens_to w ↦ made_still f k o.i less o.invariant.1 (deaf day_length k.clock k.now c.args.interrupt _ (sym c.listens_to.ensures ∙ w.if-listens_to.false)) w.k-is w.s-is
+        | then-listens_to w ↦ made_more f k o.i less o.invariant.1 w.trigger-u.result w.trigger-u.ensures w.k-is (w.sets-is ∙ w.put_marks-sets.ensures)
+        | else-listens_to w ↦ made_still f k o.i less o.invariant.1 (deaf day_length k.clock k.now c.args.interrupt _ (sym c.listens_to.ensures ∙ w.if-listens_to.false)) w.k-is w.sets-is
       ],
       elim c.if-listens_to.branch [
         | then-listens_to w ↦
@@ -55,6 +37,7 @@ loop-i-preserved c =
             (turned_more k.counts.tasks k.tasks o.k.tasks o.turned o.invariant.2 o.i room (task_now f k o.i less o.invariant.1) w.trigger-u.result.task)
         | else-listens_to w ↦ rw (w.k-is, w.turned-is) o.invariant.2
       ],
+      o.invariant.3,
     )
 
 pub returns : goal.returns

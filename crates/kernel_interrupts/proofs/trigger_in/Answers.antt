@@ -17,8 +17,8 @@ use Rattle.kernel_interrupts.proofs.trigger_in.Goals as goal
 is_day : IsDay day_length
 is_day = record { some = omega arith; room = omega arith }
 
-pub bounds-k-at : goal.bounds-k-at
-bounds-k-at c = omega (arith, c.requires.i_lt_interrupts, (tested day_length c.args.k c.requires.k_value).fits.interrupts)
+pub bounds-k-i : goal.bounds-k-i
+bounds-k-i c = omega (arith, c.requires.i_lt_interrupts, (tested day_length c.args.k c.requires.k_value).fits.interrupts)
 
 pub trigger_all-w-requires : goal.trigger_all-w-requires
 trigger_all-w-requires c = record { tasks_le_most_tasks = (tested day_length c.args.k c.requires.k_value).fits.tasks; k_le_last_instant = (sound day_length c.args.k c.requires.k_value).now }
@@ -39,18 +39,18 @@ finished-requires c =
       places_value = rw w.0 (parts day_length k c.requires.k_value).places;
     }
 
-pub returns-then-k-at : goal.returns-then-k-at
-returns-then-k-at c =
+pub returns-then-k-i : goal.returns-then-k-i
+returns-then-k-i c =
     let k = c.args.k in
     let w = c.trigger_all-w.ensures in
     let x = c.next_event-next.ensures ∙ ap (λ (q : State). next_among k.now q.counts.tasks c.trigger_all-w.result.state.tasks) w.0 in
     c.finished.ensures k.tasks (rw w.0 (rw w.0 at w.2))
     ∙ every_finish k (trigger_turn day_length k.clock k.now c.args.i) w.0 w.1 x
-    ∙ ap (finish k) (sym (trigger_on day_length k c.args.i c.if-k-at.true))
+    ∙ ap (finish k) (sym (trigger_on day_length k c.args.i c.if-k-i.true))
 
 pub done-requires : goal.done-requires
 done-requires c = record { next_value = c.requires.next_value; k_value = (sound day_length c.args.k c.requires.k_value).waits; places_value = (parts day_length c.args.k c.requires.k_value).places }
 
 pub returns : goal.returns
 returns c =
-    c.done.ensures ∙ ap (finish c.args.k) (sym (trigger_off day_length c.args.k c.args.i c.if-k-at.false))
+    c.done.ensures ∙ ap (finish c.args.k) (sym (trigger_off day_length c.args.k c.args.i c.if-k-i.false))

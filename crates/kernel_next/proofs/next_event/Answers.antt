@@ -1,24 +1,20 @@
 -- The next event among the tasks looked at.
-use borrow.Author.Rules.{rules}
-use mathlib.Core.Path.{◌≡◌, ap, ◌∙◌}
-use Prim.Native.Nat.{ℕ, ◌≤◌, ◌-◌}
-use native.Mathlib.Nat.{le_antisymm}
-use Rattle.kernel_next.specs.Next.{moment_of}
-use Rattle.machine.specs.NextEvent.{next_among}
-use Rattle.kernel_next.proofs.NextLaws.{among_none, among_more}
+use Rattle.std.proofs.Common.{rules, refl, arith}
+use Rattle.std.proofs.lemmas.List.{get_or-take}
+use Rattle.machine.specs.NextEvent.{next_among, all_pending}
+use Rattle.task.specs.State.{no_task}
+use Rattle.calendar.specs.Moments.{first_after}
+use Rattle.kernel_next.proofs.NextLaws.{among_more}
 use Rattle.kernel_next.proofs.next_event.Goals as goal
 
-pub loop-i-init : goal.loop-i-init
-loop-i-init c = (let a = c.args in (search rules, among_none a.now a.k.tasks))
+pub loop-t-init : goal.loop-t-init
+unfolding first_after next_among all_pending
+loop-t-init c = (omega arith, refl)
 
-pub loop-i-preserved : goal.loop-i-preserved
-loop-i-preserved c =
-    let l = c.loop-i in
+pub loop-t-preserved : goal.loop-t-preserved
+loop-t-preserved c =
+    let l = c.loop-t in
     let a = c.args in
-    (search rules, among_more a.now a.k.tasks l.i l.soonest c.sooner_end-soonest.result l.invariant.1 (rw (← c.sooner_due-soonest.ensures, ← c.sooner_due.ensures) c.sooner_end-soonest.ensures))
-
-pub returns : goal.returns
-returns c =
-    let l = c.loop-i in
-    let a = c.args in
-    c.moment_of.ensures ∙ l.invariant.1 ∙ ap (λ (i : ℕ). next_among a.now i a.k.tasks) (le_antisymm l.invariant.0 c.loop-i-test.false)
+    let t = get_or-take a.k.counts.tasks a.k.tasks l.t-index no_task (omega (arith, l.auto)) in
+    let e = rw (c.sooner_due.ensures, c.sooner_due-soonest.ensures, t) at c.sooner_end-soonest.ensures in
+    (omega arith, among_more a.now a.k.tasks l.t-index l.soonest c.sooner_end-soonest.result l.invariant.1 e)

@@ -29,8 +29,8 @@ loop-i-preserved c =
       h.1,
       unfold moved_below in
           elim c.if-is_in.branch [
-            | then-is_in w ↦ rw (w.ps-is, w.to_end-next.ensures, add-one, ← said, w.if-is_in.true, h.2)
-            | else-is_in w ↦ rw (w.ps-is, add-one, ← said, w.if-is_in.false) h.2
+            | then-is_in w ↦ rw (w.places-is, w.to_end-next.ensures, add-one, ← said, w.if-is_in.true, h.2)
+            | else-is_in w ↦ rw (w.places-is, add-one, ← said, w.if-is_in.false) h.2
           ],
     )
 

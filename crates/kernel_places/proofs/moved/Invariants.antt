@@ -13,7 +13,7 @@ use Rattle.machine.proofs.SetLaws.{has_empty}
 use Rattle.kernel_places.proofs.moved.Given as goal
 
 abbrev pub invariant-loop-i : goal.invariant-loop-i
-invariant-loop-i l = (l.i ≤ l.n) × (l.n ≤ most_tasks) × (l.ps ≡ moved_below l.n (λ j. holds j l.events) l.i l.initial.ps)
+invariant-loop-i l = (l.i ≤ l.n) × (l.n ≤ most_tasks) × (l.places ≡ moved_below l.n (λ j. holds j l.events) l.i l.initial.places)
 
 abbrev pub decreases-loop-i : goal.decreases-loop-i
 decreases-loop-i l = l.n - l.i

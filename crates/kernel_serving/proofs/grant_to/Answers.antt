@@ -8,29 +8,33 @@ use Rattle.kernel_serving.specs.Served.{served}
 use Rattle.kernel_serving.proofs.WaitLaws.{Listed, listed}
 use Rattle.kernel_test.proofs.SoundLaws.{places_fit}
 use Rattle.kernel_serving.proofs.grant_to.Goals as goal
+use Rattle.kernel_serving.proofs.grant_to.Goals.{Start}
 
 pub bounds-k-i : goal.bounds-k-i
 bounds-k-i c = omega (arith, places_fit c.args.k c.requires.k_value, c.requires.i_lt_tasks)
 
-pub move_all-left-requires : goal.move_all-left-requires
-move_all-left-requires c =
+-- It waits on a list in order.
+waiter : (c : Start) → Listed (task_at c.args.k.tasks c.args.i)
+waiter c =
     let k = c.args.k in
-    let l = listed k c.requires.k_value c.args.i c.requires.i_lt_tasks (served_waits k.counts.tasks (served k 0) c.args.i c.requires.i_value) in
+    listed k c.requires.k_value c.args.i c.requires.i_lt_tasks (served_waits k.counts.tasks (served k 0) c.args.i c.requires.i_value)
+
+pub move_all-k-requires : goal.move_all-k-requires
+move_all-k-requires c =
+    let k = c.args.k in
+    let l = waiter (goal.at.move_all-k-requires c).Start in
     record {
-      n_le_most_numbers = l.short;
       list_value = l.below;
       list_value_2 = l.once;
       list_value_3 = served_free k.counts.tasks (served k 0) c.args.i c.requires.i_value;
     }
 
-pub offset_bounds-k-i-2 : goal.offset_bounds-k-i-2
-offset_bounds-k-i-2 c =
-    omega (arith, places_fit c.args.k c.requires.k_value, c.requires.i_lt_tasks)
+pub overflow_cast-list : goal.overflow_cast-list
+overflow_cast-list c = omega (arith, (waiter (goal.at.overflow_cast-list c).Start).short)
 
-pub bounds-k-i-2 : goal.bounds-k-i-2
-bounds-k-i-2 c =
-    omega (arith, places_fit c.args.k c.requires.k_value, c.requires.i_lt_tasks)
+pub shared_ref_as_front-list : goal.shared_ref_as_front-list
+shared_ref_as_front-list c = (waiter (goal.at.shared_ref_as_front-list c).Start).short
 
 pub returns : goal.returns
 unfolding grant_to
-returns c = rw (c.wait_over-over.ensures, c.move_all-left.ensures)
+returns c = rw (c.wait_over.ensures, c.move_all-k.ensures)

@@ -47,14 +47,14 @@ returns-in_default c =
 
 pub declared-requires : goal.declared-requires
 declared-requires c =
-    let formed = admitted_formal day_length _ _ _ c.admit-a.ensures.reading c.in-Accepted.is in
+    let formed = admitted_formal day_length _ _ _ c.admit-a.ensures.reading c.in-Ok.is in
     record { file_value = taken_filed day_length _ c.requires.k_value; by_index = (c.admit-a.result.list, formed) }
 
 pub arrived-requires-in-EveryTask : goal.arrived-requires-in-EveryTask
 arrived-requires-in-EveryTask c =
     let k = c.args.k in
     let p = c.requires.k_value in
-    let sorted = c.admit-a.ensures.sort c.in-Accepted.head c.in-Accepted.is in
+    let sorted = c.admit-a.ensures.sort c.in-Ok.head c.in-Ok.is in
     record { mark_value = sym sorted ∙ c.in-EveryTask.is; k_value = taken_valid day_length k p; r_value = taken_runner day_length k p; next_value = taken_next day_length k p }
 
 pub interrupted-requires : goal.interrupted-requires
@@ -62,12 +62,12 @@ unfolding declared_by
 interrupted-requires c =
     let k = c.args.k in
     let p = c.requires.k_value in
-    let sorted = c.admit-a.ensures.sort c.in-Accepted.head c.in-Accepted.is in
-    let formed = admitted_formal day_length _ _ _ c.admit-a.ensures.reading c.in-Accepted.is in
+    let sorted = c.admit-a.ensures.sort c.in-Ok.head c.in-Ok.is in
+    let formed = admitted_formal day_length _ _ _ c.admit-a.ensures.reading c.in-Ok.is in
     record {
       next_value = taken_next day_length k p;
       k_value = taken_valid day_length k p;
-      number_lt_interrupts = ltb-true _ _ (rw (sym sorted ∙ c.in-AnInterrupt.is) at (past day_length k c.in-Accepted.head c.admit-a.result.list formed).known);
+      number_lt_interrupts = ltb-true _ _ (rw (sym sorted ∙ c.in-AnInterrupt.is) at (past day_length k c.in-Ok.head c.admit-a.result.list formed).known);
     }
 
 pub done_to-requires : goal.done_to-requires
@@ -77,8 +77,8 @@ done_to-requires c =
     record {
       k_value = p;
       r_value = taken_runner day_length k p;
-      list_value = admitted_formal day_length _ _ _ c.admit-a.ensures.reading c.in-Accepted.is;
-      sort_value = c.admit-a.ensures.sort c.in-Accepted.head c.in-Accepted.is;
+      list_value = admitted_formal day_length _ _ _ c.admit-a.ensures.reading c.in-Ok.is;
+      sort_value = c.admit-a.ensures.sort c.in-Ok.head c.in-Ok.is;
       sort_value_2 = rw c.in-OneTask.is;
       i_value = rw c.in-OneTask.is;
     }
@@ -91,8 +91,8 @@ done_to-requires-in_default-sort c =
     record {
       k_value = p;
       r_value = taken_runner day_length k p;
-      list_value = admitted_formal day_length _ _ _ c.admit-a.ensures.reading c.in-Accepted.is;
-      sort_value = c.admit-a.ensures.sort c.in-Accepted.head c.in-Accepted.is;
+      list_value = admitted_formal day_length _ _ _ c.admit-a.ensures.reading c.in-Ok.is;
+      sort_value = c.admit-a.ensures.sort c.in-Ok.head c.in-Ok.is;
       sort_value_2 = r.0;
       i_value = rw (r.1, c.runner_at.ensures);
     }
@@ -102,31 +102,31 @@ unfolding declares
 returns-in-Declaration c =
     let k = c.args.k in
     let l = c.admit-a.result.list in
-    let sorted = c.admit-a.ensures.sort c.in-Accepted.head c.in-Accepted.is in
+    let sorted = c.admit-a.ensures.sort c.in-Ok.head c.in-Ok.is in
     c.declared.ensures l
-    ∙ settled_declared day_length k c.in-Accepted.head l (ap declaring (sym sorted ∙ c.in-Declaration.is))
-    ∙ step_admitted day_length _ _ c.requires.k_value c.admit-a.ensures.reading c.in-Accepted.is
+    ∙ settled_declared day_length k c.in-Ok.head l (ap declaring (sym sorted ∙ c.in-Declaration.is))
+    ∙ step_admitted day_length _ _ c.requires.k_value c.admit-a.ensures.reading c.in-Ok.is
 
 pub returns-in-EveryTask : goal.returns-in-EveryTask
 returns-in-EveryTask c =
     let k = c.args.k in
     let l = c.admit-a.result.list in
-    let sorted = c.admit-a.ensures.sort c.in-Accepted.head c.in-Accepted.is in
-    c.arrived-in-EveryTask.ensures (call_with c.in-Accepted.head l)
-    ∙ settled_time day_length k c.in-Accepted.head l (sym sorted ∙ c.in-EveryTask.is)
-    ∙ step_admitted day_length _ _ c.requires.k_value c.admit-a.ensures.reading c.in-Accepted.is
+    let sorted = c.admit-a.ensures.sort c.in-Ok.head c.in-Ok.is in
+    c.arrived-in-EveryTask.ensures (call_with c.in-Ok.head l)
+    ∙ settled_time day_length k c.in-Ok.head l (sym sorted ∙ c.in-EveryTask.is)
+    ∙ step_admitted day_length _ _ c.requires.k_value c.admit-a.ensures.reading c.in-Ok.is
 
 pub returns-in-AnInterrupt : goal.returns-in-AnInterrupt
 returns-in-AnInterrupt c =
     let k = c.args.k in
     let l = c.admit-a.result.list in
-    let sorted = c.admit-a.ensures.sort c.in-Accepted.head c.in-Accepted.is in
+    let sorted = c.admit-a.ensures.sort c.in-Ok.head c.in-Ok.is in
     c.interrupted.ensures
-    ∙ settled_interrupt day_length k c.in-Accepted.head l (sym sorted ∙ c.in-AnInterrupt.is)
-    ∙ step_admitted day_length _ _ c.requires.k_value c.admit-a.ensures.reading c.in-Accepted.is
+    ∙ settled_interrupt day_length k c.in-Ok.head l (sym sorted ∙ c.in-AnInterrupt.is)
+    ∙ step_admitted day_length _ _ c.requires.k_value c.admit-a.ensures.reading c.in-Ok.is
 
 pub returns-in-OneTask : goal.returns-in-OneTask
-returns-in-OneTask c = c.done_to.ensures ∙ step_admitted day_length _ _ c.requires.k_value c.admit-a.ensures.reading c.in-Accepted.is
+returns-in-OneTask c = c.done_to.ensures ∙ step_admitted day_length _ _ c.requires.k_value c.admit-a.ensures.reading c.in-Ok.is
 
 pub returns-in_default-sort : goal.returns-in_default-sort
-returns-in_default-sort c = c.done_to-in_default-sort.ensures ∙ step_admitted day_length _ _ c.requires.k_value c.admit-a.ensures.reading c.in-Accepted.is
+returns-in_default-sort c = c.done_to-in_default-sort.ensures ∙ step_admitted day_length _ _ c.requires.k_value c.admit-a.ensures.reading c.in-Ok.is

@@ -4,4 +4,4 @@ use Rattle.kernel_test.proofs.Surveying.{said_number}
 use Rattle.kernel_test.proofs.kernel_refusal.Goals as goal
 
 pub returns : goal.returns
-returns c = said_number day_length _ c.surveyed-v.ensures c.file_refusal.ensures
+returns c = said_number day_length _ c.surveyed.ensures c.file_refusal.ensures

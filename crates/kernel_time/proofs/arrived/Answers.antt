@@ -1,7 +1,8 @@
 -- Refused by the time, or each task has its turn or stays as it is.
+use Rattle.std.specs.Prelude.{None, Some}
 use borrow.Author.Rules.{rules}
 use borrow.Author.Tests.{leb-true}
-use mathlib.Core.Path.{◌≡◌, sym, ◌∙◌, ap, ap₂, subst}
+use mathlib.Core.Path.{◌≡◌, refl, sym, ◌∙◌, ap, ap₂, subst}
 use mathlib.Core.Bool.{true, false, Bool, cond, not, beq}
 use Prim.Native.Nat.{ℕ, ◌+◌, ◌≤◌, ◌<◌}
 use native.Mathlib.Nat.{le_antisymm}
@@ -9,6 +10,7 @@ use native.Mathlib.Omega.{arith}
 use lib.ListN.{length}
 use lib.Seq.{get_or-set_other}
 use Rattle.calendar.specs.Limits.{day_length, last_instant}
+use Rattle.calendar.specs.Moments.{first_after}
 use Rattle.calendar.specs.declared.Instant.{Instant}
 use Rattle.facts.proofs.Bools.{neither}
 use Rattle.task.specs.Turns.{tick_turn}
@@ -16,22 +18,21 @@ use Rattle.task.proofs.Laws.{still}
 use Rattle.task.specs.State.{no_task, runnable}
 use Rattle.task.specs.declared.Turn.{Turn}
 use Rattle.machine.specs.State.{most_tasks, task_at, begun_at, place_at, with_file, with_state}
-use Rattle.machine.specs.Running.{running_of}
-use Rattle.machine.specs.NextEvent.{next_among}
+use Rattle.machine.specs.Running.{running_of, Running}
+use Rattle.machine.specs.NextEvent.{next_among, all_pending}
 use Rattle.machine.specs.Serving.{next_served}
 use Rattle.machine.specs.Work.{every_turn}
 use Rattle.machine.specs.Test.{valid}
 use Rattle.machine.specs.Calls.{arrive, arrival}
-use Rattle.machine.specs.Step.{finish}
+use Rattle.machine.specs.Step.{answered, finish}
 use Rattle.machine.specs.declared.State.{State}
-use Rattle.machine.specs.declared.Running.{Running}
-use Rattle.machine.specs.declared.Running.TheVariants.{Idle, Runs}
 use Rattle.machine.proofs.NextEvent.{among_same}
 use Rattle.machine.proofs.Passed.{tested, parts}
-use Rattle.kernel_next.proofs.NextLaws.{among_none, among_more}
+use Rattle.kernel_next.proofs.NextLaws.{among_more}
 use Rattle.machine.proofs.Turns.{good_tick}
 use Rattle.machine.specs.Places.{moved}
 use Rattle.machine.specs.Sets.{holds}
+use Rattle.record.proofs.NumberLaws.{number_some}
 use Rattle.kernel_values.proofs.Owned.{Owned, tasks_long, tables_long}
 use Rattle.kernel_sets.proofs.SetTill.{Till, till_none, till_more, till_still, unlike}
 use Rattle.kernel_sets.specs.Standing.{turned_if, Turned}
@@ -43,7 +44,7 @@ use Rattle.kernel_time.proofs.TimeLaws.{arrives, refused, accepted, arrives_in_t
 use Rattle.kernel_time.proofs.TickRuns.{Leading, leading_none, leading_from, leading_more, leading_still, runs_below}
 use Rattle.kernel_time.proofs.TickEnds.{turns, unturned, places_apart, turned_moves, turned_all, turned_leads}
 use Rattle.kernel_time.proofs.arrived.Goals as goal
-use Rattle.kernel_time.proofs.arrived.Goals.{in-Runs, in_default, then-may_come, else-may_come, then-altered, else-altered}
+use Rattle.kernel_time.proofs.arrived.Goals.{in-Some, in_default-r, then-may_come, else-may_come, then-altered, else-altered}
 
 fits : (k : State) → valid day_length k ≡ true → k.counts.tasks ≤ most_tasks
 fits k v = (tested day_length k v).fits.tasks
@@ -53,28 +54,29 @@ inside : (k : State) (i : ℕ) → valid day_length k ≡ true → i < k.counts.
 inside k i v h = omega (arith, h, fits k v)
 
 -- The task that runs has one too.
-below : (k : State) (i : ℕ) {r : Running} → valid day_length k ≡ true → running_of k.counts.tasks k.places k.tasks ≡ r → r ≡ Runs i → i < most_tasks
+below : (k : State) (i : ℕ) {r : Running} → valid day_length k ≡ true → running_of k.counts.tasks k.places k.tasks ≡ r → r ≡ Some i → i < most_tasks
 below k i v e z = omega (arith, runs_below k.places k.tasks k.counts.tasks i (e ∙ z), fits k v)
 
-pub returns-then-number-ne0 : goal.returns-then-number-ne0
-returns-then-number-ne0 c d =
+pub returns-in-Err : goal.returns-in-Err
+returns-in-Err c d =
     let a = c.args in
     let q = c.requires in
-    c.answered.ensures ∙ refused a.k a.mark q.mark_value q.next_value c.time_refusal-number.ensures c.if-number-ne0.true a.r q.r_value d _
+    c.answered.ensures ∙ ap (λ (n : ℕ). answered a.k n a.r) c.number.ensures ∙ refused a.k a.mark q.mark_value q.next_value c.in-Err.ensures (number_some c.in-Err.refusal) a.r q.r_value d _
 
 pub arrival-n-requires : goal.arrival-n-requires
 arrival-n-requires c = leb-true _ _ (parts day_length c.args.k c.requires.k_value).now
 
 pub bounds-k-at : goal.bounds-k-at
-bounds-k-at c = below c.args.k c.in-Runs.j c.requires.k_value (sym c.requires.r_value) c.in-Runs.is
+bounds-k-at c = below c.args.k c.in-Some.j c.requires.k_value (sym c.requires.r_value) c.in-Some.is
 
-pub bounds-k-at-in-Runs : goal.bounds-k-at-in-Runs
-bounds-k-at-in-Runs c = below c.args.k c.in-Runs.j c.requires.k_value (sym c.requires.r_value) c.in-Runs.is
+pub bounds-k-at-in-Some : goal.bounds-k-at-in-Some
+bounds-k-at-in-Some c = below c.args.k c.in-Some.j c.requires.k_value (sym c.requires.r_value) c.in-Some.is
 
 pub against_if-lead-requires : goal.against_if-lead-requires
-against_if-lead-requires c = below c.args.k c.in-Runs.j c.requires.k_value (sym c.requires.r_value) c.in-Runs.is
+against_if-lead-requires c = below c.args.k c.in-Some.j c.requires.k_value (sym c.requires.r_value) c.in-Some.is
 
 pub loop-i-init : goal.loop-i-init
+unfolding next_among all_pending first_after
 loop-i-init c =
     let k = c.args.k in
     let long = tasks_long k (c.well_formed.0.0, c.well_formed.0.1.1) in
@@ -82,45 +84,22 @@ loop-i-init c =
       search rules,
       rw c.no_sets-s.ensures (made_none _ _),
       elim c.match-r.branch [
-        | in-Runs w ↦ leading_from k.places k.tasks k.counts.tasks long w.in-Runs.j (runs ∙ w.in-Runs.is) c.no_lead-lead.ensures (rw w.lead-is w.against_if-lead.ensures)
-        | in_default w ↦ leading_none k.places k.tasks k.counts.tasks long (runs ∙ w.in_default.is) (w.lead-is ∙ c.no_lead-lead.ensures)
+        | in-Some w ↦ leading_from k.places k.tasks k.counts.tasks long w.in-Some.j (runs ∙ w.in-Some.is) c.no_lead-lead.ensures (rw w.lead-is w.against_if-lead.ensures)
+        | in_default-r w ↦ leading_none k.places k.tasks k.counts.tasks long (runs ∙ w.in_default-r.is) (w.lead-is ∙ c.no_lead-lead.ensures)
       ],
       λ e j l. absurd (omega arith),
       till_none _,
-      among_none _ _,
+      refl,
+      fits k c.requires.k_value,
     )
-
-pub bounds-k-i : goal.bounds-k-i
-bounds-k-i c = inside c.args.k c.loop-i.i c.requires.k_value c.loop-i-test.true
-
-pub bounds-k-i-then-may_come : goal.bounds-k-i-then-may_come
-bounds-k-i-then-may_come c = inside c.args.k c.loop-i.i c.requires.k_value c.loop-i-test.true
 
 pub tick-u-requires : goal.tick-u-requires
 tick-u-requires c =
     let k = c.args.k in
     let q = c.requires in
     let there = arrives k c.args.mark q.mark_value q.next_value c.arrival-n.ensures in
-    let in_time : c.arrival-n.result.0 ≤ last_instant = rw there (arrives_in_time k c.args.mark q.mark_value q.next_value c.time_refusal-number.ensures c.if-number-ne0.false) in
+    let in_time : c.arrival-n.result.0 ≤ last_instant = rw there (arrives_in_time k c.args.mark q.mark_value q.next_value c.in_default.ensures refl) in
     omega arith
-
-pub bounds-k-i-then-may_come-2 : goal.bounds-k-i-then-may_come-2
-bounds-k-i-then-may_come-2 c = inside c.args.k c.loop-i.i c.requires.k_value c.loop-i-test.true
-
-pub put_marks-s-requires : goal.put_marks-s-requires
-put_marks-s-requires c = inside c.args.k c.loop-i.i c.requires.k_value c.loop-i-test.true
-
-pub put_if-turned-requires : goal.put_if-turned-requires
-put_if-turned-requires c = inside c.args.k c.loop-i.i c.requires.k_value c.loop-i-test.true
-
-pub bounds-k-i-then-may_come-3 : goal.bounds-k-i-then-may_come-3
-bounds-k-i-then-may_come-3 c = inside c.args.k c.loop-i.i c.requires.k_value c.loop-i-test.true
-
-pub against_if-lead-requires-then-may_come : goal.against_if-lead-requires-then-may_come
-against_if-lead-requires-then-may_come c = inside c.args.k c.loop-i.i c.requires.k_value c.loop-i-test.true
-
-pub bounds-k-i-in-loop-i : goal.bounds-k-i-in-loop-i
-bounds-k-i-in-loop-i c = inside c.args.k c.loop-i.i c.requires.k_value c.loop-i-test.true
 
 -- Once task i has had its turn, or has been passed over, and what pends for it has been looked at.
 pub loop-i-preserved : goal.loop-i-preserved
@@ -170,9 +149,10 @@ loop-i-preserved c =
             (w.turned-is ∙ w.put_if-turned.ensures)
         | else-may_come w ↦ till_still _ h.4 (rw (← same, still n t (nothing_comes n t (sym c.may_come.ensures ∙ w.if-may_come.false))) (unturned (runnable t))) w.turned-is
       ],
-      among_more n c.if-may_come.k.tasks i o.soonest c.sooner_end-soonest.result
+      among_more n c.if-may_come.k.tasks i o.next c.sooner_end-next.result
           (h.5 ∙ among_same n o.k.tasks c.if-may_come.k.tasks i kept)
-          (rw (← c.sooner_due-soonest.ensures, ← c.sooner_due.ensures) c.sooner_end-soonest.ensures),
+          (rw (← c.sooner_due-next.ensures, ← c.sooner_due-next-in-loop-i.ensures) c.sooner_end-next.ensures),
+      h.6,
     )
 
 pub finished-z-requires : goal.finished-z-requires
@@ -183,15 +163,15 @@ finished-z-requires c =
     let n = c.arrival-n.result in
     let l = c.loop-i in
     let there = arrives k c.args.mark q.mark_value q.next_value c.arrival-n.ensures in
-    let in_time : n.0 ≤ last_instant = rw there (arrives_in_time k c.args.mark q.mark_value q.next_value c.time_refusal-number.ensures c.if-number-ne0.false) in
+    let in_time : n.0 ≤ last_instant = rw there (arrives_in_time k c.args.mark q.mark_value q.next_value c.in_default.ensures refl) in
     let all = made_all (tick_turn _) _ _ (le_antisymm l.invariant.0 c.loop-i-test.false) l.invariant.1 in
     record {
       k_value = every_waits day_length k v (tasks_long k (c.well_formed.0.0, c.well_formed.0.1.1)) n (tick_turn n) (λ t h. (good_tick day_length k.counts n t in_time h).ok) all.0;
       places_value = rw all.0 (parts day_length k v).places;
     }
 
-pub moved-places-requires : goal.moved-places-requires
-moved-places-requires c = fits c.args.k c.requires.k_value
+pub moved-k-requires : goal.moved-k-requires
+moved-k-requires c = fits c.args.k c.requires.k_value
 
 pub returns : goal.returns
 unfolding arrive
@@ -207,19 +187,19 @@ returns c d =
     let there = arrives k c.args.mark q.mark_value q.next_value c.arrival-n.ensures in
     let w = made_all f _ _ (le_antisymm l.invariant.0 c.loop-i-test.false) l.invariant.1 in
     let t : Till (turns n k) k.counts.tasks l.turned = rw (le_antisymm l.invariant.0 c.loop-i-test.false) at l.invariant.4 in
-    let x = c.moment_of-next.ensures ∙ l.invariant.5 ∙ ap (λ (i : ℕ). next_among n i l.k.tasks) (le_antisymm l.invariant.0 c.loop-i-test.false) in
-    let idle : l.altered ≡ false → next_served k.counts.tasks k.places (served (every_done k n f) 0) ≡ Idle =
+    let x = l.invariant.5 ∙ ap (λ (i : ℕ). next_among n i l.k.tasks) (le_antisymm l.invariant.0 c.loop-i-test.false) in
+    let idle : l.altered ≡ false → next_served k.counts.tasks k.places (served (every_done k n f) 0) ≡ None =
     λ (e : l.altered ≡ false).
     every_idle day_length k v long n f (λ t h. tick_keeps day_length k.counts n t h) (λ j b. l.invariant.3 e j (omega (arith, b, c.loop-i-test.false))) in
-    let ends : record { state = begun_at n (with_file (record { running = c.if-altered.runner; next = c.moment_of-next.result }) c.if-altered.k); answer = answer_of 0 c.if-altered.runner c.if-altered.s } ≡ finish k (every_turn k n f) =
+    let ends : record { state = begun_at n (with_file (record { running = c.if-altered.running; next = l.next }) c.if-altered.k); answer = answer_of 0 c.if-altered.running c.if-altered.s } ≡ finish k (every_turn k n f) =
     elim c.if-altered.branch [
       | then-altered z ↦
-          every_served k n f w.0 w.1 (z.finished-z.ensures k.tasks (subst (λ (q : State). Turned q.counts.tasks k.tasks q.tasks (record { runnable = l.turned; waiting = 0 })) (sym w.0) (turned_all day_length k v long n l.turned t))) z.k-is z.s-is z.runner-is x
+          every_served k n f w.0 w.1 (z.finished-z.ensures k.tasks (subst (λ (q : State). Turned q.counts.tasks k.tasks q.tasks (record { runnable = l.turned; waiting = 0 })) (sym w.0) (turned_all day_length k v long n l.turned t))) z.k-is z.s-is z.running-is x
       | else-altered z ↦
-          let o = turned_moves day_length k v long n l.turned t (z.moved-places.ensures ∙ ap (λ (q : State). moved k.counts.tasks (λ i. holds i l.turned) q.places) w.0) in
+          let o = turned_moves day_length k v long n l.turned t (z.moved-k.ensures ∙ ap (λ (q : State). moved k.counts.tasks (λ i. holds i l.turned) q.places) w.0) in
           every_unserved k n f w.0 (z.s-is ∙ w.1) (idle z.if-altered.false) o
-          (z.runner-is ∙ c.who-runner.ensures ∙ turned_leads day_length k v long n l.turned t (tables_long k own).places (subst (λ (q : State). Leading k.places l.turned q.tasks k.counts.tasks l.lead) w.0 l.invariant.2) o) z.k-is x
+          (z.running-is ∙ c.who-running.ensures ∙ turned_leads day_length k v long n l.turned t (tables_long k own).places (subst (λ (q : State). Leading k.places l.turned q.tasks k.counts.tasks l.lead) w.0 l.invariant.2) o) z.k-is x
     ] in
     rw (c.answer_of.ensures, c.begun_at.ensures) ends
     ∙ ap (λ (x : Instant). finish k (arrive k x)) there
-    ∙ accepted k c.args.mark q.mark_value q.next_value c.time_refusal-number.ensures c.if-number-ne0.false d _
+    ∙ accepted k c.args.mark q.mark_value q.next_value c.in_default.ensures refl d _

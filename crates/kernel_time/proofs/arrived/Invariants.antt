@@ -1,4 +1,5 @@
 -- Refused by the time, or each task has its turn or stays as it is.
+use Rattle.std.specs.Prelude.{None}
 use borrow.Author.Rules.{rules}
 use mathlib.Core.Path.{◌≡◌, sym, ◌∙◌, ap, ap₂, subst}
 use mathlib.Core.Logic.{⊎_elim}
@@ -17,7 +18,7 @@ use Rattle.task.proofs.Laws.{still}
 use Rattle.task.specs.State.{no_task, runnable}
 use Rattle.task.specs.declared.Turn.{Turn}
 use Rattle.machine.specs.State.{most_tasks, task_at, with_state, begun_at, place_at, with_file}
-use Rattle.machine.specs.Running.{running_of}
+use Rattle.machine.specs.Running.{running_of, Running}
 use Rattle.machine.specs.NextEvent.{next_among}
 use Rattle.machine.specs.Serving.{next_served}
 use Rattle.machine.specs.Work.{every_turn}
@@ -25,12 +26,9 @@ use Rattle.machine.specs.Test.{valid}
 use Rattle.machine.specs.Calls.{arrive, arrival}
 use Rattle.machine.specs.Step.{finish}
 use Rattle.machine.specs.declared.State.{State}
-use Rattle.machine.specs.declared.Running.{Running}
-use Rattle.machine.specs.declared.Running.TheVariants.{Idle}
 use Rattle.machine.proofs.NextEvent.{among_same}
 use Rattle.machine.proofs.Passed.{tested, parts}
-use Rattle.kernel_next.specs.Next.{moment_of}
-use Rattle.kernel_next.proofs.NextLaws.{among_none, among_more}
+use Rattle.kernel_next.proofs.NextLaws.{among_more}
 use Rattle.machine.proofs.Turns.{good_tick}
 use Rattle.machine.specs.Places.{moved}
 use Rattle.machine.specs.Sets.{holds}
@@ -48,7 +46,7 @@ use Rattle.kernel_time.proofs.arrived.Given as goal
 
 abbrev pub invariant-loop-i : goal.invariant-loop-i
 invariant-loop-i l =
-    (l.i ≤ l.most) × Made (tick_turn l.n) l.initial.k l.i l.k l.s × Leading l.initial.k.places l.turned l.k.tasks l.initial.k.counts.tasks l.lead × (l.altered ≡ false → Steady (tick_turn l.n) l.initial.k.tasks l.i) × Till (turns l.n l.initial.k) l.i l.turned × (moment_of l.soonest ≡ next_among l.n l.i l.k.tasks)
+    (l.i ≤ l.most) × Made (tick_turn l.n) l.initial.k l.i l.k l.s × Leading l.initial.k.places l.turned l.k.tasks l.initial.k.counts.tasks l.lead × (l.altered ≡ false → Steady (tick_turn l.n) l.initial.k.tasks l.i) × Till (turns l.n l.initial.k) l.i l.turned × (l.next ≡ next_among l.n l.i l.k.tasks) × (l.most ≤ most_tasks)
 
 abbrev pub decreases-loop-i : goal.decreases-loop-i
 decreases-loop-i l = l.most - l.i

@@ -1,15 +1,9 @@
 -- The invariant: all were 0 so far, and what is left decides.
-use borrow.Author.Rules.{rules}
-use mathlib.Core.Path.{◌≡◌, refl, sym, ap, ◌∙◌}
-use mathlib.Core.Bool.{◌&&◌, and-true}
-use Prim.Native.Nat.{◌-◌}
-use lib.ListN.{length, drop}
+use mathlib.Core.Path.{◌≡◌}
+use mathlib.Core.Bool.{◌&&◌}
+use lib.ListN.{drop}
 use Rattle.lists.specs.Lists.{all_zero}
-use Rattle.lists.proofs.ListsLaws.{zero_more, zero_end}
 use Rattle.lists.proofs.zero_bytes.Given as goal
 
-abbrev pub invariant-loop-i : goal.invariant-loop-i
-invariant-loop-i l = all_zero l.s ≡ (l.ok && all_zero (drop l.i l.s))
-
-abbrev pub decreases-loop-i : goal.decreases-loop-i
-decreases-loop-i l = length l.s - l.i
+abbrev pub invariant-loop-x : goal.invariant-loop-x
+invariant-loop-x l = all_zero l.s ≡ (l.ok && all_zero (drop l.x-index l.s))

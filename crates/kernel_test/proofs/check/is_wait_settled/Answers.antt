@@ -1,44 +1,46 @@
 -- The list is looked at when its length is in range, and tried when its numbers are.
-use mathlib.Core.Bool.{not}
-use mathlib.Core.Path.{ap}
-use borrow.Author.Rules.{rules}
+use Rattle.std.proofs.Common.{rules, not}
+use mathlib.Core.Path.{ap, sym, ◌∙◌}
+use Rattle.facts.proofs.Bools.{contra}
 use Rattle.kernel_test.proofs.TestLaws.{not_many, settled_none, settled_long, settled_twice, settled_unknown, settled_below, settled_each}
 use Rattle.kernel_test.proofs.check.is_wait_settled.Goals as goal
+use Rattle.kernel_test.proofs.check.is_wait_settled.Goals.{then-is_distinct, else-is_distinct}
 
 pub returns-then-not-is_waiting : goal.returns-then-not-is_waiting
 returns-then-not-is_waiting c ts h = let a = c.args in
     settled_none a.n ts a.locks a.t c.is_waiting.ensures (ap not c.if-not-is_waiting.true)
 
-pub returns-then-not-len : goal.returns-then-not-len
-returns-then-not-len c ts h = let a = c.args in
-    settled_long a.n ts a.locks a.t c.is_waiting.ensures (ap not c.if-not-is_waiting.false) (ap not c.if-not-len.true)
-
-pub is_distinct-requires : goal.is_distinct-requires
-is_distinct-requires c = not_many c.args.t.len (ap not c.if-not-len.false)
-
-pub returns-then-not-is_distinct : goal.returns-then-not-is_distinct
-returns-then-not-is_distinct c ts h = let a = c.args in
-    settled_twice a.n ts a.locks a.t c.is_waiting.ensures (ap not c.if-not-is_waiting.false) (ap not c.if-not-len.false)
-    c.is_distinct.ensures (ap not c.if-not-is_distinct.true)
-
-pub are_below-requires : goal.are_below-requires
-are_below-requires c = not_many c.args.t.len (ap not c.if-not-len.false)
-
-pub returns-then-not-are_below : goal.returns-then-not-are_below
-returns-then-not-are_below c ts h = let a = c.args in
-    settled_unknown a.n ts a.locks a.t c.is_waiting.ensures (ap not c.if-not-is_waiting.false) (ap not c.if-not-len.false)
-    c.is_distinct.ensures (ap not c.if-not-is_distinct.false) c.count_of.ensures c.are_below.ensures (ap not c.if-not-are_below.true)
+pub returns-then-not-t : goal.returns-then-not-t
+returns-then-not-t c ts h = let a = c.args in
+    settled_long a.n ts a.locks a.t c.is_waiting.ensures (ap not c.if-not-is_waiting.false) (ap not c.if-not-t.true)
 
 pub could_be_granted-requires : goal.could_be_granted-requires
 could_be_granted-requires c =
     let a = c.args in
-    record {
-      m_le_most_numbers = not_many a.t.len (ap not c.if-not-len.false);
-      list_value = settled_below a.n a.t c.requires c.count_of.ensures c.are_below.ensures (ap not c.if-not-are_below.false);
-    }
+    elim c.if-is_distinct.branch [
+      | then-is_distinct w ↦ settled_below a.n a.t c.requires w.count_of.ensures w.are_below.ensures (ap not (sym w.value-is ∙ c.if-are_below.true))
+      | else-is_distinct w ↦ contra c.if-are_below.true (w.value-is ∙ w.if-is_distinct.false)
+    ]
 
-pub returns : goal.returns
-returns c ts h = let a = c.args in
-    settled_each a.n ts a.locks a.t c.is_waiting.ensures (ap not c.if-not-is_waiting.false) (ap not c.if-not-len.false)
-    c.is_distinct.ensures (ap not c.if-not-is_distinct.false) c.count_of.ensures c.are_below.ensures (ap not c.if-not-are_below.false)
-    (c.could_be_granted.ensures a.n.tasks ts h)
+pub returns-then-are_below : goal.returns-then-are_below
+returns-then-are_below c ts h =
+    let a = c.args in
+    elim c.if-is_distinct.branch [
+      | then-is_distinct w ↦
+          settled_each a.n ts a.locks a.t c.is_waiting.ensures (ap not c.if-not-is_waiting.false) (ap not c.if-not-t.false)
+          c.is_distinct.ensures (ap not w.if-is_distinct.true) w.count_of.ensures w.are_below.ensures (ap not (sym w.value-is ∙ c.if-are_below.true))
+          (c.could_be_granted.ensures a.n.tasks ts h)
+      | else-is_distinct w ↦ contra c.if-are_below.true (w.value-is ∙ w.if-is_distinct.false)
+    ]
+
+pub returns-else-are_below : goal.returns-else-are_below
+returns-else-are_below c ts h =
+    let a = c.args in
+    c.if-are_below.false ∙ elim c.if-is_distinct.branch [
+      | then-is_distinct w ↦
+          settled_unknown a.n ts a.locks a.t c.is_waiting.ensures (ap not c.if-not-is_waiting.false) (ap not c.if-not-t.false)
+          c.is_distinct.ensures (ap not w.if-is_distinct.true) w.count_of.ensures w.are_below.ensures (ap not (sym w.value-is ∙ c.if-are_below.false))
+      | else-is_distinct w ↦
+          settled_twice a.n ts a.locks a.t c.is_waiting.ensures (ap not c.if-not-is_waiting.false) (ap not c.if-not-t.false)
+          c.is_distinct.ensures (ap not w.if-is_distinct.false)
+    ]

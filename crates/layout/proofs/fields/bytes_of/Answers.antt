@@ -1,5 +1,4 @@
 -- The bytes from their parts.
-use borrow.Author.Rules.{rules}
 use Rattle.layout.proofs.FieldsLaws.{laid}
 use Rattle.layout.proofs.fields.bytes_of.Goals as goal
 

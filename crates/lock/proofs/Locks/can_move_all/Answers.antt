@@ -1,39 +1,24 @@
 -- Each number is tested, in the list's order.
-use mathlib.Core.Bool.{not}
-use mathlib.Core.Path.{ap}
 use borrow.Author.Rules.{rules}
-use mathlib.Core.Path.{refl}
-use Prim.Native.Nat.{◌-◌}
-use native.Mathlib.Omega.{arith}
-use Rattle.lock.specs.Locks.{can_move}
-use Rattle.lock.proofs.Rests.{Passed, number_below, fails_here, passes_here, all_pass}
+use mathlib.Core.Bool.{not}
+use mathlib.Core.Path.{ap, refl}
+use Rattle.lists.proofs.SeenLaws.{seen_all}
+use Rattle.lock.proofs.Rests.{number_below, fails_here, passes_here}
 use Rattle.lock.proofs.Locks.can_move_all.Goals as goal
 
-pub loop-i-init : goal.loop-i-init
-loop-i-init c = record { named = record { short = omega arith; below = c.requires.list_value }; within = omega arith; rest = refl }
-
-pub overflow_cast-x : goal.overflow_cast-x
-overflow_cast-x c = omega (arith, number_below c.loop-i.invariant.named c.loop-i-test.true)
-
-pub offset_bounds-self-x : goal.offset_bounds-self-x
-offset_bounds-self-x c = omega (arith, number_below c.loop-i.invariant.named c.loop-i-test.true)
-
 pub bounds-self-x : goal.bounds-self-x
-bounds-self-x c = omega (arith, number_below c.loop-i.invariant.named c.loop-i-test.true)
+bounds-self-x c = number_below _ _ c.requires c.loop-number-test.true
 
-pub offset_bounds-self-x-in-loop-i : goal.offset_bounds-self-x-in-loop-i
-offset_bounds-self-x-in-loop-i c = omega (arith, number_below c.loop-i.invariant.named c.loop-i-test.true)
-
-pub bounds-self-x-in-loop-i : goal.bounds-self-x-in-loop-i
-bounds-self-x-in-loop-i c = omega (arith, number_below c.loop-i.invariant.named c.loop-i-test.true)
+pub bounds-self-x-in-loop-number : goal.bounds-self-x-in-loop-number
+bounds-self-x-in-loop-number c = number_below _ _ c.requires c.loop-number-test.true
 
 pub returns-then-not-can_move : goal.returns-then-not-can_move
 returns-then-not-can_move c =
-    fails_here c.loop-i.invariant c.loop-i-test.true (c.can_move.ensures _ _ refl refl) (ap not c.if-not-can_move.true)
+    fails_here c.loop-number.invariant c.loop-number-test.true (c.can_move.ensures _ _ refl refl) (ap not c.if-not-can_move.true)
 
-pub loop-i-preserved : goal.loop-i-preserved
-loop-i-preserved c =
-    passes_here c.loop-i.invariant c.loop-i-test.true (c.can_move.ensures _ _ refl refl) (ap not c.if-not-can_move.false)
+pub loop-number-preserved : goal.loop-number-preserved
+loop-number-preserved c =
+    passes_here c.loop-number.invariant c.loop-number-test.true (c.can_move.ensures _ _ refl refl) (ap not c.if-not-can_move.false)
 
 pub returns : goal.returns
-returns c = all_pass c.loop-i.invariant c.loop-i-test.false
+returns c = seen_all c.loop-number.invariant c.loop-number-test.false
