@@ -24,24 +24,24 @@ fn carry(script: Script, bytes: &[u8], out: &mut [u8]) -> Script
     carried
 }
 
-// Carries out what each read brings, and prints the lines of those who wait then.
-fn tell_waits(rt: &HostRuntime) -> Result<(), Failure> {
+// Carries out what each read brings, prints the lines of those who wait then, and tells on standard error what failed,
+// and why.
+fn main(rt: HostRuntime) {
     let mut input = [0u8; 65536];
     let mut output = [0u8; 65536];
     let begun = Script::begin(Kernel::fresh());
     let done = fold(&mut rt.stdin(), &mut input, begun, |script, bytes| {
         Ok(carry(script, bytes, &mut output))
-    })?;
-    let Some(script) = done else {
-        return Ok(());
+    });
+    let told = match done {
+        Ok(Some(script)) => {
+            let n = text_at(script.kernel.state, &mut output, 0);
+            rt.write_all(&output[..n]).map_err(Failure::Output)
+        }
+        Ok(None) => Ok(()),
+        Err(failure) => Err(failure),
     };
-    let n = text_at(script.kernel.state, &mut output, 0);
-    rt.write_all(&output[..n]).map_err(Failure::Output)
-}
-
-// What failed, and why, is told on standard error.
-fn main(rt: HostRuntime) {
-    if let Err(failure) = tell_waits(&rt) {
+    if let Err(failure) = told {
         let _ = eprintln!(rt; "rackwait: {failure}");
     }
 }
