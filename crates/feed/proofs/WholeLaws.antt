@@ -31,11 +31,16 @@ module _ {held : ℕ} {before after : List ℕ} (r : Fed) (h : ReadOn held befor
 
 -- ---- a read that failed
 
+-- It brings nothing.
+none_came : {E : Type 0} (got : Result ℕ E) → went_well got ≡ false → brought got ≡ 0
+none_came (Ok n) f = contra refl f
+none_came (Err e) f = refl
+
 -- The fields that fed_by fills in.
 pub failed_read : (held : ℕ) {E : Type 0} (got : Result ℕ E) (r : Fed) → r.total ≡ held + brought got → r.more ≡ ltb held r.total
     → r.whole ≡ whole_of r.total r.more → went_well got ≡ false → NothingRead held r
 unfolding whole_of
-failed_read held (Ok n) r total more whole f = contra refl f
-failed_read held (Err e) r total more whole f =
-    let ends : r.more ≡ false = more ∙ le-ltb held r.total (omega (arith, total)) in
-    record { total = omega (arith, total); more = ends; whole = omega (arith, total, rw ends at whole) }
+failed_read held got r total more whole f =
+    let none = none_came got f in
+    let ends : r.more ≡ false = more ∙ le-ltb held r.total (omega (arith, total, none)) in
+    record { total = omega (arith, total, none); more = ends; whole = omega (arith, total, none, rw ends at whole) }

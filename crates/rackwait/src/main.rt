@@ -16,12 +16,11 @@ use std::convert::Infallible;
 use wait_lines::text_at;
 
 // Carries the records of bytes out. The lines of their answers are left in the buffer and not printed.
-fn carry(script: Script, bytes: &[u8], out: &mut [u8]) -> Script
+fn carry(script: &mut Script, bytes: &[u8], out: &mut [u8])
     requires { longest_line ≤ length out.old }
-    ensures { result ≡ going_on (final day_length script.kernel.state (records bytes.now)) }
+    ensures { script.new ≡ going_on (final day_length script.old.kernel.state (records bytes.now)) }
 {
-    let Ok(carried) = run::carry(script, bytes, out, |_| Ok::<(), Infallible>(()));
-    carried
+    let Ok(()) = run::carry_on(script, bytes, out, |_| Ok::<(), Infallible>(()));
 }
 
 // Carries out what each read brings, prints the lines of those who wait then, and tells on standard error what failed,
@@ -29,12 +28,13 @@ fn carry(script: Script, bytes: &[u8], out: &mut [u8]) -> Script
 fn main(rt: HostRuntime) {
     let mut input = [0u8; 65536];
     let mut output = [0u8; 65536];
-    let begun = Script::begin(Kernel::fresh());
-    let done = fold(&mut rt.stdin(), &mut input, begun, |script, bytes| {
-        Ok(carry(script, bytes, &mut output))
+    let mut script = Script::begin(Kernel::fresh());
+    let done = fold(&mut rt.stdin(), &mut input, (), |(), bytes| {
+        carry(&mut script, bytes, &mut output);
+        Ok(())
     });
     let told = match done {
-        Ok(Some(script)) => {
+        Ok(Some(())) => {
             let n = text_at(script.kernel.state, &mut output, 0);
             rt.write_all(&output[..n]).map_err(Failure::Output)
         }

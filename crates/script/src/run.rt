@@ -1,5 +1,5 @@
 // The script's loop: one record after the other, each with its line.
-ghost use Rattle.std.specs.Prelude.{◌≡◌, IfOk, ◌+◌, ◌≤◌, ◌<◌, min, length};
+ghost use Rattle.std.specs.Prelude.{◌≡◌, IfOk, OnOk, ◌+◌, ◌≤◌, ◌<◌, min, length};
 ghost use Rattle.calendar.specs.Limits.{day_length};
 ghost use Rattle.layout.specs.Fields.{record_length};
 ghost use Rattle.machine.specs.Log.{final};
@@ -105,26 +105,41 @@ pub fn run_from(script: Script, bytes: &[u8], at: usize, out: &mut [u8]) -> Ran
     run(script, &bytes[at..], out)
 }
 
-// Carries the records of bytes out, and hands their lines to write, a buffer full at a time. It ends with the first time
-// that they could not be written.
+// Carries the records of bytes out in place, and hands their lines to write, a buffer full at a time. It ends with the
+// first time that they could not be written.
+pub fn carry_on<E, W: FnMut(&[u8]) -> Result<(), E>>(
+    script: &mut Script,
+    bytes: &[u8],
+    out: &mut [u8],
+    mut write: W,
+) -> Result<(), E>
+    requires callable { W.IsAlwaysCallable write }
+    requires longest_line_in_bounds { longest_line ≤ length out.old }
+    ensures { OnOk result (script.new ≡ going_on (final day_length script.old.kernel.state (records bytes.now))) }
+{
+    let mut at = 0;
+    // No iterator would be plainer: how far a run gets is what it says itself.
+    while at < bytes.len() {
+        let ran = run_from(*script, bytes, at, out);
+        *script = ran.script;
+        at += ran.read;
+        write(&out[..ran.written])?;
+    }
+    Ok(())
+}
+
+// The same of a script that is handed in, for the one that is handed back.
 pub fn carry<E, W: FnMut(&[u8]) -> Result<(), E>>(
     script: Script,
     bytes: &[u8],
     out: &mut [u8],
-    mut write: W,
+    write: W,
 ) -> Result<Script, E>
     requires callable { W.IsAlwaysCallable write }
     requires longest_line_in_bounds { longest_line ≤ length out.old }
     ensures { IfOk result (λ p. p ≡ going_on (final day_length script.kernel.state (records bytes.now))) }
 {
     let mut now = script;
-    let mut at = 0;
-    // No iterator would be plainer: how far a run gets is what it says itself.
-    while at < bytes.len() {
-        let ran = run_from(now, bytes, at, out);
-        now = ran.script;
-        at += ran.read;
-        write(&out[..ran.written])?;
-    }
+    carry_on(&mut now, bytes, out, write)?;
     Ok(now)
 }

@@ -5,4 +5,4 @@ use Rattle.lines.specs.Lines.{longest_line}
 use Rattle.rackrun.proofs.main.Goals as goal
 
 pub fold-done-requires : goal.fold-done-requires
-fold-done-requires c = mut_by _ (λ f. longest_line ≤ length f.1.now) (λ s a i. search (rules, i)) (λ s a r t i e. search (rules, i)) _ (search rules)
+fold-done-requires c = mut_by _ (λ f. longest_line ≤ length f.2.now) (λ s a i. search (rules, i)) (λ s a r t i e. search (rules, i)) _ (search rules)
