@@ -20,7 +20,8 @@ fn carry<P: Print>(rt: &P, script: &mut Script, bytes: &[u8], out: &mut [u8]) ->
     run::carry_on(script, bytes, out, |lines| rt.write_all(lines)).map_err(Failure::Output)
 }
 
-// Carries out what each read brings, and tells on standard error what failed, and why.
+// Carries out what each read brings, and tells on standard error what failed, and why. The script stays in its place:
+// handed through fold it would be copied at each read.
 fn main(rt: HostRuntime) {
     let mut input = [0u8; 65536];
     let mut output = [0u8; 65536];

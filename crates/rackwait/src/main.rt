@@ -24,7 +24,7 @@ fn carry(script: &mut Script, bytes: &[u8], out: &mut [u8])
 }
 
 // Carries out what each read brings, prints the lines of those who wait then, and tells on standard error what failed,
-// and why.
+// and why. The script stays in its place: handed through fold it would be copied at each read.
 fn main(rt: HostRuntime) {
     let mut input = [0u8; 65536];
     let mut output = [0u8; 65536];
